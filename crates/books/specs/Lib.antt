@@ -1,0 +1,5 @@
+pub mod Meaning
+pub mod Words
+pub mod Ledger
+pub mod Stock
+pub mod Shelf
