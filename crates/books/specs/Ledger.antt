@@ -4,12 +4,14 @@ use mathlib.Core.List.{List, [], _∷_, map}
 use mathlib.Core.Bool.{Bool, cond, not, _&&_, _||_}
 use lib.Chars.{codes}
 use lib.Dec.{leb, ltb, eqb}
-use lib.IntN.{ℤ, pos, negsuc, _+ℤ_, _-ℤ_}
+use lib.IntN.{ℤ, pos, negsuc, _+ℤ_, negℤ}
 use lib.Signed.{leZ}
 use lib.ListN.{length}
 use mir.Syntax.{w64}
 use mir.Val.{toZ, ofZ}
 use Rattle.std.specs.Iters.{folded}
+use Rattle.std.specs.declared.option.Option.{Option}
+use Rattle.std.specs.declared.option.Option.the-variants.{Some, None}
 use Rattle.std.specs.declared.result.Result.{Result}
 use Rattle.std.specs.declared.result.Result.the-variants.{Ok, Err}
 use Rattle.refusals.specs.declared.places.StepPlace.{StepPlace}
@@ -54,18 +56,28 @@ ledger-takes p a b =
     (cond (eqb p 2) (own a && depositor b)
     (eqb p 3 && (not (eqb a b) && ((own a && own b) || (depositor a && depositor b)))))
 
--- every balance before and after lies within its bounds
-abbrev pub balances-stay : ℤ → ℤ → ℕ → Bool
-balances-stay x y n = (within x && within y) && (within (x +ℤ pos n) && within (y -ℤ pos n))
+-- a balance lies within its bounds before and after a change
+abbrev pub balance-stays : ℤ → ℤ → Bool
+balance-stays z change = within z && within (z +ℤ change)
+
+-- the code after a change; none where the balance lies outside before or after
+abbrev pub code-changed : ℕ → ℤ → Option ℕ
+code-changed c change =
+    cond (balance-stays (balance c) change) (Some (balance-code (balance c +ℤ change))) None
+
+-- both new codes, or place 3
+abbrev pub both : Option ℕ → Option ℕ → Result (ℕ × ℕ) StepPlace
+both None y = Err Values
+both (Some x) None = Err Values
+both (Some x) (Some y) = Ok (x, y)
 
 -- the amount is added to a and taken from b
 abbrev pub ledger-step : ℕ → ℕ → ℕ → ℕ → ℕ → ℕ → Result (ℕ × ℕ) StepPlace
 ledger-step p a b x y n =
     cond (ledger-takes p a b)
     (cond (amount-ok 1000000000 n)
-    (cond (balances-stay (balance x) (balance y) n)
-    (Ok (balance-code (balance x +ℤ pos n), balance-code (balance y -ℤ pos n)))
-    (Err Values)) (Err Amount)) (Err Items)
+    (both (code-changed x (pos n)) (code-changed y (negℤ (pos n))))
+    (Err Amount)) (Err Items)
 
 abbrev pub ledger : Meaning
 ledger = record {

@@ -1,7 +1,8 @@
 ghost use mathlib.Core.Path.{_≡_};
 ghost use Prim.Native.Nat.{ℕ};
 ghost use Rattle.std.specs.Options.{mapped};
-ghost use Rattle.books.specs.Ledger.{ledger, ledger-takes, balance, within, balances-stay};
+ghost use lib.IntN.{pos, negℤ};
+ghost use Rattle.books.specs.Ledger.{ledger, ledger-takes, balance, within, code-changed};
 use crate::book::Book;
 use refusals::StepPlace;
 
@@ -23,6 +24,30 @@ fn is_within(pence: i64) -> bool
     ensures value { λ r. ⌜ r ≡ within pence ⌝ }
 {
     -FURTHEST <= pence && pence <= FURTHEST
+}
+
+/// The code of a balance with an amount added, unless it lies outside its bounds before or after.
+fn raised(code: u64, amount: u32) -> Option<u64>
+    ensures value { λ r. ⌜ r ≡ code-changed code (pos amount) ⌝ }
+{
+    let before = code.cast_signed();
+    if !is_within(before) {
+        return None;
+    }
+    let after = before + i64::from(amount);
+    if is_within(after) { Some(after.cast_unsigned()) } else { None }
+}
+
+/// The code of a balance with an amount taken off, unless it lies outside its bounds before or after.
+fn lowered(code: u64, amount: u32) -> Option<u64>
+    ensures value { λ r. ⌜ r ≡ code-changed code (negℤ (pos amount)) ⌝ }
+{
+    let before = code.cast_signed();
+    if !is_within(before) {
+        return None;
+    }
+    let after = before - i64::from(amount);
+    if is_within(after) { Some(after.cast_unsigned()) } else { None }
 }
 
 /// Whether the procedure takes these two items.
@@ -101,16 +126,12 @@ pub impl Book for Ledger as LedgerBook {
         if amount < 1 || amount > Self::CEILING {
             return Err(StepPlace::Amount);
         }
-        let x = codes.0.cast_signed();
-        let y = codes.1.cast_signed();
-        if !is_within(x) || !is_within(y) {
+        let Some(more) = raised(codes.0, amount as u32) else {
             return Err(StepPlace::Values);
-        }
-        let more = x + amount as i64;
-        let less = y - amount as i64;
-        if !is_within(more) || !is_within(less) {
+        };
+        let Some(less) = lowered(codes.1, amount as u32) else {
             return Err(StepPlace::Values);
-        }
-        Ok((more.cast_unsigned(), less.cast_unsigned()))
+        };
+        Ok((more, less))
     }
 }

@@ -3,6 +3,7 @@
 mod book;
 mod ledger;
 mod stock;
+mod words;
 
 pub use book::Book;
 pub use ledger::Balance;
@@ -11,3 +12,4 @@ pub use ledger::LedgerBook;
 pub use stock::Reels;
 pub use stock::Stock;
 pub use stock::StockBook;
+pub use words::procedure_named;

@@ -1,0 +1,5 @@
+mod Lists
+mod Totals
+mod Folds
+mod LedgerLaw
+mod StockLaw
