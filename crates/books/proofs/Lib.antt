@@ -1,5 +1,6 @@
-mod Lists
-mod Totals
 mod Folds
 mod LedgerLaw
+mod Lists
+mod Naming
 mod StockLaw
+mod Totals

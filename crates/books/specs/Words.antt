@@ -3,8 +3,9 @@ use Prim.Native.Nat.{ℕ, zero, suc, _≤_}
 use mathlib.Core.Path.{_≡_}
 use mathlib.Core.List.{List, [], _∷_}
 use mathlib.Core.Bool.{Bool, true, false, cond, not, _&&_, _||_}
-use lib.Dec.{leb, eqb}
+use lib.Dec.{leb}
 use lib.ListN.{length}
+use Rattle.std.specs.shelf.Text.{sameBytes}
 use Rattle.std.specs.declared.option.Option.{Option}
 use Rattle.std.specs.declared.option.Option.the-variants.{Some, None}
 use Rattle.books.specs.Meaning.{Meaning}
@@ -13,13 +14,6 @@ use Rattle.books.specs.Meaning.{Meaning}
 abbrev pub all : {X : Type 0} → (X → Bool) → List X → Bool
 all p [] = true
 all p (x ∷ xs) = p x && all p xs
-
--- the same bytes
-abbrev pub same : List ℕ → List ℕ → Bool
-same [] [] = true
-same [] (y ∷ ys) = false
-same (x ∷ xs) [] = false
-same (x ∷ xs) (y ∷ ys) = eqb x y && same xs ys
 
 -- the word at a place from 0
 abbrev pub at : List (List ℕ) → ℕ → Option (List ℕ)
@@ -32,10 +26,15 @@ abbrev pub word-of : List (List ℕ) → ℕ → Option (List ℕ)
 word-of ws zero = None
 word-of ws (suc k) = at ws k
 
+-- whether a word is this one
+abbrev pub is-word : Option (List ℕ) → List ℕ → Bool
+is-word None w = false
+is-word (Some v) w = sameBytes v w
+
 -- the procedure that a word names, counted on from p
 abbrev pub named-from : ℕ → List (List ℕ) → List ℕ → Option ℕ
 named-from p [] w = None
-named-from p (v ∷ vs) w = cond (same v w) (Some p) (named-from (suc p) vs w)
+named-from p (v ∷ vs) w = cond (sameBytes v w) (Some p) (named-from (suc p) vs w)
 
 -- the procedure that a word names
 abbrev pub named : List (List ℕ) → List ℕ → Option ℕ
@@ -51,7 +50,7 @@ proper-word w = (leb 1 (length w) && leb (length w) 8) && all letter w
 -- no word stands twice
 abbrev pub apart : List (List ℕ) → Bool
 apart [] = true
-apart (w ∷ ws) = all (λ v. not (same w v)) ws && apart ws
+apart (w ∷ ws) = all (λ v. not (sameBytes w v)) ws && apart ws
 
 -- up to 7 words
 abbrev pub Few-words : Meaning → Type 0
