@@ -10,7 +10,7 @@ use lib.ListN.{length, getD, drop}
 use Rattle.std.specs.Iters.{folded}
 use Rattle.std.proofs.shelf.Lists.{at-drop-more, at-drop-all}
 use Rattle.std.proofs.shelf.Tests.{and-parts, leb-true, eq-eqb}
-use Rattle.books.specs.Words.{all}
+use Rattle.lists.specs.Every.{all}
 use Rattle.books.specs.Ledger.{balance, within, is-zero}
 use Rattle.books.specs.Stock.{held, most, shelf-ok, stock-valid}
 

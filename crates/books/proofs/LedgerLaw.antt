@@ -18,9 +18,10 @@ use Rattle.std.proofs.shelf.Lists.{length-set, length-map, map-set, getD-map, g
 use Rattle.std.proofs.shelf.Signed.{ints, toZ-ofZ}
 use Rattle.std.proofs.shelf.Tests.{and-parts, and-from, eq-eqb, eqb-true}
 use Rattle.books.specs.Meaning.{Step-keeps-valid, amount-ok}
-use Rattle.books.specs.Words.{all}
+use Rattle.lists.specs.Every.{all}
 use Rattle.books.specs.Ledger.{ledger, ledger-valid, ledger-takes, balance, balance-code, balance-stays, within, is-zero, total, code-changed, both}
-use Rattle.books.proofs.Lists.{all-set, passed}
+use Rattle.lists.proofs.Elements.{all-set}
+use Rattle.books.proofs.Accepted.{passed}
 use Rattle.books.proofs.Totals.{total-set, within-bounds}
 
 -- both codes were there

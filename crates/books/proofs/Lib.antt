@@ -1,6 +1,6 @@
+mod Accepted
 mod Folds
 mod LedgerLaw
-mod Lists
-mod Naming
+pub mod Naming
 mod StockLaw
 mod Totals

@@ -11,9 +11,10 @@ use Rattle.std.proofs.shelf.Lists.{length-set}
 use Rattle.std.proofs.shelf.Sums.{sumBy-set}
 use Rattle.std.proofs.shelf.Tests.{and-parts, and-from, eq-eqb, eqb-true, ltb-true, leb-true, true≢false}
 use Rattle.books.specs.Meaning.{Step-keeps-valid, amount-ok}
-use Rattle.books.specs.Words.{all}
+use Rattle.lists.specs.Every.{all}
 use Rattle.books.specs.Stock.{stock, stock-valid, stock-takes, held, most, reels-code, shelf-ok, held-after, most-after, halves-stay, reels-stay, code-after}
-use Rattle.books.proofs.Lists.{all-set, passed}
+use Rattle.lists.proofs.Elements.{all-set}
+use Rattle.books.proofs.Accepted.{passed}
 use Rattle.books.proofs.Folds.{in-order}
 
 -- the halves of a code are those that it was made of

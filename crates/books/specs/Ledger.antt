@@ -17,7 +17,7 @@ use Rattle.std.specs.declared.result.Result.the-variants.{Ok, Err}
 use Rattle.refusals.specs.declared.places.StepPlace.{StepPlace}
 use Rattle.refusals.specs.declared.places.StepPlace.the-variants.{Items, Amount, Values}
 use Rattle.books.specs.Meaning.{Meaning, amount-ok}
-use Rattle.books.specs.Words.{all}
+use Rattle.lists.specs.Every.{all}
 
 -- the balance that a code stands for: two's complement at 64 bits
 abbrev pub balance : ℕ → ℤ

@@ -11,7 +11,7 @@ use Rattle.std.specs.declared.result.Result.the-variants.{Ok, Err}
 use Rattle.refusals.specs.declared.places.StepPlace.{StepPlace}
 use Rattle.refusals.specs.declared.places.StepPlace.the-variants.{Items, Amount, Values}
 use Rattle.books.specs.Meaning.{Meaning, amount-ok}
-use Rattle.books.specs.Words.{all}
+use Rattle.lists.specs.Every.{all}
 
 -- the reels held: the low 32 bits of a code
 abbrev pub held : ℕ → ℕ

@@ -8,12 +8,8 @@ use lib.ListN.{length}
 use Rattle.std.specs.shelf.Text.{sameBytes}
 use Rattle.std.specs.declared.option.Option.{Option}
 use Rattle.std.specs.declared.option.Option.the-variants.{Some, None}
+use Rattle.lists.specs.Every.{all}
 use Rattle.books.specs.Meaning.{Meaning}
-
--- p holds of every element
-abbrev pub all : {X : Type 0} → (X → Bool) → List X → Bool
-all p [] = true
-all p (x ∷ xs) = p x && all p xs
 
 -- the word at a place from 0
 abbrev pub at : List (List ℕ) → ℕ → Option (List ℕ)

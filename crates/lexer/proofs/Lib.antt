@@ -1,3 +1,2 @@
 mod Cuts
-mod Fronts
 mod Values

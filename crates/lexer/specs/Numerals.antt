@@ -7,7 +7,7 @@ use lib.ListN.{length}
 use Rattle.std.specs.Iters.{folded}
 use Rattle.std.specs.declared.option.Option.{Option}
 use Rattle.std.specs.declared.option.Option.the-variants.{Some, None}
-use Rattle.lexer.specs.Pieces.{all}
+use Rattle.lists.specs.Every.{all}
 
 abbrev pub digit : ℕ → Bool
 digit b = leb 48 b && leb b 57

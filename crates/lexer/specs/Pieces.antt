@@ -1,17 +1,10 @@
 -- How a text falls into lines, and a line into words.
 use Prim.Native.Nat.{ℕ}
 use mathlib.Core.List.{List, [], _∷_}
-use mathlib.Core.Bool.{Bool, true, false, cond, not, _&&_, _||_}
+use mathlib.Core.Bool.{Bool, cond, not, _&&_, _||_}
 use lib.Dec.{leb, eqb}
 use lib.ListN.{take}
 use Rattle.std.specs.shelf.Lists.{leading}
-use Rattle.std.specs.declared.option.Option.{Option}
-use Rattle.std.specs.declared.option.Option.the-variants.{Some, None}
-
--- p holds of every element
-abbrev pub all : {X : Type 0} → (X → Bool) → List X → Bool
-all p [] = true
-all p (x ∷ xs) = p x && all p xs
 
 -- a line feed ends a line
 abbrev pub newline : ℕ → Bool
@@ -44,11 +37,6 @@ filled ((b ∷ p) ∷ ps) = (b ∷ p) ∷ filled ps
 -- the lines of a text
 abbrev pub lines : List ℕ → List (List ℕ)
 lines text = pieces newline text
-
--- the lines that are still to be read, where none is left once the last was read
-abbrev pub lines-left : Option (List ℕ) → List (List ℕ)
-lines-left None = []
-lines-left (Some text) = lines text
 
 -- the words of a line
 abbrev pub words : List ℕ → List (List ℕ)

@@ -1,13 +1,12 @@
 ghost use mathlib.Core.Path.{_≡_};
-ghost use mathlib.Core.List.{List, [], _∷_};
+ghost use mathlib.Core.List.{[], _∷_};
 ghost use mathlib.Core.Bool.{not};
-ghost use Prim.Native.Nat.{ℕ, _≤_};
 ghost use lib.Dec.{eqb};
-ghost use lib.ListN.{length};
-ghost use Rattle.std.specs.Options.{Cases, mapped};
+ghost use Rattle.std.specs.Options.{Cases};
 ghost use Rattle.std.specs.shelf.Lists.{leading};
-ghost use Rattle.std.specs.declared.option.Option.the-variants.{Some};
-ghost use Rattle.lexer.specs.Pieces.{all, blank, printable, lines, lines-left, words, uncommented};
+ghost use Rattle.lexer.specs.Left.{lines-left, words-left};
+ghost use Rattle.lists.specs.Every.{all};
+ghost use Rattle.lexer.specs.Pieces.{blank, printable, lines, words, uncommented};
 
 /// The lines of a text that are still to be read, without their line feeds.
 #[derive(Drop)]
@@ -83,14 +82,14 @@ pub fn without_comment(line: &[u8]) -> &[u8]
 impl<'a> Lines<'a> {
     /// All lines of a text.
     pub fn of(text: &'a [u8]) -> Lines<'a>
-        ensures all_left { λ r. ⌜ lines-left (mapped now (r .rest)) ≡ lines (now (text .entry)) ⌝ }
+        ensures all_left { λ r. ⌜ lines-left r ≡ lines (now (text .entry)) ⌝ }
     {
         Lines { rest: Some(text) }
     }
 
     /// The next line, or none after the last.
     pub fn next_line(&mut self) -> Option<&'a [u8]>
-        ensures takes_first { λ r. ⌜ Cases r ((lines-left (mapped now (now (self .entry) .rest)) ≡ []) × (lines-left (mapped now (now (self .exit) .rest)) ≡ [])) (λ l. lines-left (mapped now (now (self .entry) .rest)) ≡ now l ∷ lines-left (mapped now (now (self .exit) .rest))) ⌝ }
+        ensures takes_first { λ r. ⌜ Cases r ((lines-left (now (self .entry)) ≡ []) × (lines-left (now (self .exit)) ≡ [])) (λ l. lines-left (now (self .entry)) ≡ now l ∷ lines-left (now (self .exit))) ⌝ }
     {
         let text = self.rest?;
         let end = count_before(text, b'\n');
@@ -106,14 +105,14 @@ impl<'a> Lines<'a> {
 impl<'a> Words<'a> {
     /// All words of a line.
     pub fn of(line: &'a [u8]) -> Words<'a>
-        ensures all_left { λ r. ⌜ words (now (r .rest)) ≡ words (now (line .entry)) ⌝ }
+        ensures all_left { λ r. ⌜ words-left r ≡ words (now (line .entry)) ⌝ }
     {
         Words { rest: line }
     }
 
     /// The next word, or none after the last.
     pub fn next_word(&mut self) -> Option<&'a [u8]>
-        ensures takes_first { λ r. ⌜ Cases r ((words (now (now (self .entry) .rest)) ≡ []) × (words (now (now (self .exit) .rest)) ≡ [])) (λ w. words (now (now (self .entry) .rest)) ≡ now w ∷ words (now (now (self .exit) .rest))) ⌝ }
+        ensures takes_first { λ r. ⌜ Cases r ((words-left (now (self .entry)) ≡ []) × (words-left (now (self .exit)) ≡ [])) (λ w. words-left (now (self .entry)) ≡ now w ∷ words-left (now (self .exit))) ⌝ }
     {
         let line = &self.rest[count_blanks(self.rest)..];
         let end = count_filled(line);

@@ -12,3 +12,6 @@ pub use reasons::Layer;
 pub use reasons::Reason;
 pub use reasons::Rule;
 pub use refusal::Refusal;
+pub use refusal::RefusalDebug;
+pub use refusal::RefusalDisplay;
+pub use refusal::RefusalPartialEq;

@@ -10,7 +10,8 @@ use Rattle.books.specs.Meaning.{Meaning}
 use Rattle.books.specs.Words.{named}
 use Rattle.books.specs.Ledger.{ledger}
 use Rattle.books.specs.Stock.{stock}
-use Rattle.lexer.specs.Pieces.{all, printable, words, uncommented}
+use Rattle.lists.specs.Every.{all}
+use Rattle.lexer.specs.Pieces.{printable, words, uncommented}
 use Rattle.lexer.specs.Numerals.{typed-number}
 use Rattle.script.specs.declared.line.BookName.{BookName}
 use Rattle.script.specs.declared.line.BookName.the-variants as book-name

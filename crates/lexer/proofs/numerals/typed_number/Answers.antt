@@ -1,16 +1,16 @@
 use native.Mathlib.Omega.{arith}
 use Rattle.std.proofs.shelf.Lists.{at-drop-all}
 use Rattle.std.proofs.shelf.Ways.{tells}
-use Rattle.lexer.specs.Pieces.{all}
+use Rattle.lists.specs.Every.{all}
 use Rattle.lexer.specs.Numerals.{digit}
-use Rattle.lexer.proofs.Fronts.{all-drop-more}
+use Rattle.lists.proofs.Elements.{all-drop-more}
 use Rattle.lexer.proofs.Values.{value-after, value-drop-more, value-drop-least}
 use Rattle.lexer.proofs.numerals.typed_number.Needs as need
 
 -- a byte that is no digit
 pub returns-then-byte-lt48 : need.returns-then-byte-lt48
 returns-then-byte-lt48 c =
-    let d = all-drop-more digit (c .args .word .now) (c .loop-byte .byte-index) (c .loop-byte-test .taken) in
+    let d = all-drop-more digit (c .args .word .now) (c .loop-byte .byte-index) 0 (c .loop-byte-test .taken) in
     record { value = grind (arith, tells) }
 
 -- ten times the value so far is too much, and the rest makes no less of it
@@ -28,7 +28,7 @@ returns-in-Break-value c =
 -- a digit with which the value still fits
 pub loop-byte-again : need.loop-byte-again
 loop-byte-again c =
-    let d = all-drop-more digit (c .args .word .now) (c .loop-byte .byte-index) (c .loop-byte-test .taken) in
+    let d = all-drop-more digit (c .args .word .now) (c .loop-byte .byte-index) 0 (c .loop-byte-test .taken) in
     let v = value-drop-more (c .loop-byte .value) (c .args .word .now) (c .loop-byte .byte-index) (c .loop-byte-test .taken) in
     let times = c .in-Continue-checked-mul .ensures tt in
     let plus = c .in-Continue-value .ensures tt in

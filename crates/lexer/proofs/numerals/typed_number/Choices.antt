@@ -2,7 +2,7 @@
 use Prim.Native.Nat.{_<_, _^_}
 use mathlib.Core.Path.{_≡_}
 use lib.ListN.{drop}
-use Rattle.lexer.specs.Pieces.{all}
+use Rattle.lists.specs.Every.{all}
 use Rattle.lexer.specs.Numerals.{digit, value}
 use Rattle.lexer.proofs.Values.{value-after}
 use Rattle.lexer.proofs.numerals.typed_number.Given as given

@@ -1,7 +1,8 @@
 -- What is left decides it: all before passed.
 use mathlib.Core.Path.{_≡_}
 use lib.ListN.{drop}
-use Rattle.lexer.specs.Pieces.{all, printable}
+use Rattle.lists.specs.Every.{all}
+use Rattle.lexer.specs.Pieces.{printable}
 use Rattle.lexer.proofs.pieces.is_text.Given as given
 
 abbrev pub Inv-loop-byte : given.InvT-loop-byte

@@ -1,0 +1,1 @@
+// Definitions and lemmas on lists that several crates cite. It holds no code.
