@@ -1,4 +1,5 @@
 ghost use mathlib.Core.Path.{_≡_};
+ghost use mathlib.Core.List.{map};
 ghost use Rattle.std.specs.Of.Vec.{vec-items};
 ghost use Rattle.std.specs.Vec.{made};
 ghost use Rattle.monitor.specs.Notes.{noted};
@@ -40,16 +41,24 @@ pub fn answer_command(command: Command) -> Reply
     Reply { line: command.line, answer }
 }
 
+/// Answers commands in their order. It fails only for want of memory.
+fn answer_all(heap: Global, commands: &[Command]) -> Result<Vec<Reply>, AllocError>
+    ensures answers { λ r. ⌜ made r (λ v. vec-items v ≡ map reply-to (now (commands .entry))) ⌝ }
+{
+    let mut answered = Vec::new(heap);
+    for command in commands {
+        answered.push(answer_command(*command))?;
+    }
+    Ok(answered)
+}
+
 /// Reads a script and answers it: a reply for each note up to the first bad line, and one for that line.
 /// It fails only for want of memory.
 pub fn run_script(heap: Global, text: &[u8]) -> Result<Vec<Reply>, AllocError>
     ensures answers { λ r. ⌜ made r (λ v. vec-items v ≡ replies (script-reading (now (text .entry)))) ⌝ }
 {
     let script = read_script(heap, text)?;
-    let mut answered = Vec::new(heap);
-    for command in script.commands.iter() {
-        answered.push(answer_command(*command))?;
-    }
+    let mut answered = answer_all(heap, script.commands.as_slice())?;
     if let Some(line) = script.bad_line {
         answered.push(Reply { line, answer: Err(Refusal { reason: Reason::BadScript, place: line }) })?;
     }

@@ -3,7 +3,7 @@ use mathlib.Core.List.{map}
 use lib.ListN.{take}
 use Rattle.std.specs.Of.Vec.{vec-items}
 use Rattle.script.specs.Replies.{reply-to}
-use Rattle.script.proofs.running.run_script.Given as given
+use Rattle.script.proofs.running.answer_all.Given as given
 
 abbrev pub Inv-loop-command : given.InvT-loop-command
-Inv-loop-command l = vec-items (l .answered) ≡ map reply-to (take (l .command-index) (l .command-items))
+Inv-loop-command l = vec-items (l .answered) ≡ map reply-to (take (l .command-index) (l .commands))
