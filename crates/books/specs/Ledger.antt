@@ -14,8 +14,8 @@ use Rattle.std.specs.declared.option.Option.{Option}
 use Rattle.std.specs.declared.option.Option.the-variants.{Some, None}
 use Rattle.std.specs.declared.result.Result.{Result}
 use Rattle.std.specs.declared.result.Result.the-variants.{Ok, Err}
-use Rattle.refusals.specs.declared.places.StepPlace.{StepPlace}
-use Rattle.refusals.specs.declared.places.StepPlace.the-variants.{Items, Amount, Values}
+use Rattle.refusals.specs.declared.step_place.StepPlace.{StepPlace}
+use Rattle.refusals.specs.declared.step_place.StepPlace.the-variants.{Items, Amount, Values}
 use Rattle.books.specs.Meaning.{Meaning, amount-ok}
 use Rattle.lists.specs.Every.{all}
 

@@ -7,7 +7,7 @@ use lib.Dec.{leb}
 use lib.ListN.{length, getD, set}
 use Rattle.std.specs.declared.result.Result.{Result}
 use Rattle.std.specs.declared.result.Result.the-variants.{Ok, Err}
-use Rattle.refusals.specs.declared.places.StepPlace.{StepPlace}
+use Rattle.refusals.specs.declared.step_place.StepPlace.{StepPlace}
 
 -- kind: the book's number; ceiling: the largest amount of one note; words: the names of procedures 1, 2 and so on,
 -- as bytes; valid: the lists of codes that the book allows; step: what a procedure on items a and b with an amount

@@ -19,6 +19,9 @@ pub struct Balance {
 /// The furthest that a balance may lie from zero, in pence.
 const FURTHEST: i64 = 1_000_000_000_000;
 
+/// How many procedures the ledger has: charge, receipt and shift.
+const PROCEDURES: u64 = 3;
+
 /// Whether a balance lies within its bounds.
 fn is_within(pence: i64) -> bool
     ensures value { λ r. ⌜ r ≡ within pence ⌝ }
@@ -84,7 +87,7 @@ pub impl Book for Ledger as LedgerBook {
     }
 
     fn procedures(&self) -> u64 {
-        3
+        PROCEDURES
     }
 
     fn word(&self, procedure: u64) -> Option<&str> {

@@ -7,9 +7,13 @@ mod words;
 
 pub use book::Book;
 pub use ledger::Balance;
+pub use ledger::BalanceDebug;
+pub use ledger::BalancePartialEq;
 pub use ledger::Ledger;
 pub use ledger::LedgerBook;
 pub use stock::Reels;
+pub use stock::ReelsDebug;
+pub use stock::ReelsPartialEq;
 pub use stock::Stock;
 pub use stock::StockBook;
 pub use words::procedure_named;

@@ -20,6 +20,9 @@ pub struct Reels {
 /// The most reels that one shelf may be built for.
 const LARGEST: u32 = 10_000;
 
+/// How many procedures the stock book has: build, take and give.
+const PROCEDURES: u64 = 3;
+
 /// The pair that a code stands for.
 fn reels_of(code: u64) -> Reels
     ensures held { λ r. ⌜ r .held ≡ held code ⌝ }
@@ -46,7 +49,7 @@ fn in_order(reels: Reels) -> bool
 fn takes(procedure: u64, a: u64, b: u64) -> bool
     ensures value { λ r. ⌜ r ≡ stock-takes procedure a b ⌝ }
 {
-    1 <= procedure && procedure <= 3 && 1 <= a && a <= 63 && b == 0
+    1 <= procedure && procedure <= PROCEDURES && 1 <= a && a <= 63 && b == 0
 }
 
 /// What a procedure leaves of a pair, unless a half would leave its 32 bits.
@@ -88,7 +91,7 @@ pub impl Book for Stock as StockBook {
     }
 
     fn procedures(&self) -> u64 {
-        3
+        PROCEDURES
     }
 
     fn word(&self, procedure: u64) -> Option<&str> {

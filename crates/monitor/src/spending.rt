@@ -24,3 +24,22 @@ impl Slip {
         Entered { numbers: self.note.numbers(), enterer: self.enterer, house: self.house }
     }
 }
+
+#[cfg(test)]
+mod tests {
+    use crate::making::make_note;
+    use crate::slip::Slip;
+    use books::Ledger;
+    use books::LedgerBook;
+    use refusals::RefusalDebug;
+    use std::test::*;
+
+    #[test]
+    fn a_withdrawn_slip_hands_out_its_numbers() -> Result<(), Fail> {
+        let note = make_note(&Ledger, 1, 8, 0, 4500)?;
+        let entered = Slip::of(note, 3, 77).withdraw();
+        check_eq((entered.enterer, entered.house), (3, 77))?;
+        check_eq((entered.numbers.kind, entered.numbers.procedure), (1, 1))?;
+        check_eq((entered.numbers.a, entered.numbers.b, entered.numbers.amount), (8, 0, 4500))
+    }
+}
