@@ -1,6 +1,2 @@
-mod Accepted
-mod Folds
-mod LedgerLaw
+pub mod Accepted
 pub mod Naming
-mod StockLaw
-mod Totals

@@ -1,5 +1,2 @@
 pub mod Meaning
 pub mod Words
-pub mod Ledger
-pub mod Stock
-pub mod Shelf

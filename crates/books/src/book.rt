@@ -22,10 +22,15 @@ pub trait Book {
     ghost item: { ℕ → Self·Item };
 
     law kind_in_range: { Kind-in-range meaning };
+
     law ceiling_in_range: { Ceiling-in-range meaning };
+
     law few_words: { Few-words meaning };
+
     law proper_words: { Proper-words meaning };
+
     law step_keeps_valid: { Step-keeps-valid meaning };
+
     law one_code_each: { (c d : ℕ) → c < 2 ^ 64 → d < 2 ^ 64 → item c ≡ item d → c ≡ d };
 
     /// The constant `KIND`, as generic code can use it.
@@ -57,6 +62,13 @@ pub trait Book {
         ensures value { λ r. ⌜ r ≡ meaning .valid (now (codes .entry)) ⌝ };
 
     /// The step: the new codes of items a and b, from their codes and an amount, or where it refuses.
-    fn step(&self, procedure: u64, a: u64, b: u64, codes: (u64, u64), amount: u64) -> Result<(u64, u64), StepPlace>
+    fn step(
+        &self,
+        procedure: u64,
+        a: u64,
+        b: u64,
+        codes: (u64, u64),
+        amount: u64,
+    ) -> Result<(u64, u64), StepPlace>
         ensures value { λ r. ⌜ r ≡ meaning .step procedure a b (codes .0) (codes .1) amount ⌝ };
 }

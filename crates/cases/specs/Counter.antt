@@ -12,8 +12,8 @@ use Rattle.refusals.specs.declared.refusal.Refusal.{Refusal}
 use Rattle.refusals.specs.declared.step_place.StepPlace.{StepPlace}
 use Rattle.refusals.specs.declared.step_place.StepPlace.the-variants.{Values}
 use Rattle.books.specs.Meaning.{Meaning}
-use Rattle.books.specs.Ledger.{ledger, balance}
-use Rattle.books.specs.Stock.{stock, reels-code}
+use Rattle.ledger.specs.Ledger.{ledger, balance}
+use Rattle.stock.specs.Stock.{stock, reels-code}
 use Rattle.monitor.specs.Notes.{noted, refused}
 use Rattle.monitor.specs.declared.numbers.Numbers.{Numbers}
 

@@ -13,24 +13,24 @@ pub fn examples_stand() -> u64
 
 #[cfg(test)]
 mod tests {
-    use books::Balance;
-    use books::BalanceDebug;
-    use books::BalancePartialEq;
     use books::Book;
-    use books::Ledger;
-    use books::LedgerBook;
-    use books::Reels;
-    use books::ReelsDebug;
-    use books::ReelsPartialEq;
-    use books::Stock;
-    use books::StockBook;
     use books::procedure_named;
+    use ledger::Balance;
+    use ledger::BalanceDebug;
+    use ledger::BalancePartialEq;
+    use ledger::Ledger;
+    use ledger::LedgerBook;
     use refusals::StepPlace;
     use refusals::StepPlaceDebug;
     use refusals::StepPlacePartialEq;
     use script::ReplyDisplay;
     use script::run_script;
     use std::test::*;
+    use stock::Reels;
+    use stock::ReelsDebug;
+    use stock::ReelsPartialEq;
+    use stock::Stock;
+    use stock::StockBook;
 
     // The replies to a script, a line each.
     fn replies(rt: &LibcRuntime, script: &[u8]) -> Result<String, Fail> {
@@ -65,11 +65,18 @@ mod tests {
 
     #[test]
     fn where_the_ledger_refuses() -> Result<(), Fail> {
-        check_eq(Ledger.step(1, 0, 8, (0, 0), 1), Err(StepPlace::Items)).note("a charge the wrong way round")?;
-        check_eq(Ledger.step(3, 8, 8, (0, 0), 1), Err(StepPlace::Items)).note("a shift to the same item")?;
+        check_eq(Ledger.step(1, 0, 8, (0, 0), 1), Err(StepPlace::Items)).note(
+            "a charge the wrong way round",
+        )?;
+        check_eq(Ledger.step(3, 8, 8, (0, 0), 1), Err(StepPlace::Items)).note(
+            "a shift to the same item",
+        )?;
         check_eq(Ledger.step(4, 8, 0, (0, 0), 1), Err(StepPlace::Items)).note("no such procedure")?;
         check_eq(Ledger.step(1, 8, 0, (0, 0), 0), Err(StepPlace::Amount))?;
-        check_eq(Ledger.step(1, 8, 0, (1 << 63, 0), 1), Err(StepPlace::Values)).note("a garbage code")
+        check_eq(
+            Ledger.step(1, 8, 0, (1 << 63, 0), 1),
+            Err(StepPlace::Values),
+        ).note("a garbage code")
     }
 
     #[test]
@@ -91,12 +98,29 @@ mod tests {
     #[test]
     fn where_the_stock_book_refuses() -> Result<(), Fail> {
         let shelf = Stock.encode(Reels { held: 4, most: 10 });
-        check_eq(Stock.step(2, 0, 0, (shelf, shelf), 1), Err(StepPlace::Items))?;
-        check_eq(Stock.step(2, 1, 2, (shelf, shelf), 1), Err(StepPlace::Items))?;
-        check_eq(Stock.step(2, 1, 0, (shelf, shelf), 10001), Err(StepPlace::Amount))?;
-        check_eq(Stock.step(2, 1, 0, (shelf, shelf), 7), Err(StepPlace::Values)).note("more than the shelf takes")?;
-        check_eq(Stock.step(3, 1, 0, (shelf, shelf), 5), Err(StepPlace::Values)).note("more than it holds")?;
-        check_eq(Stock.step(3, 1, 0, (shelf, 0), 4), Err(StepPlace::Values)).note("more than the sums hold")
+        check_eq(
+            Stock.step(2, 0, 0, (shelf, shelf), 1),
+            Err(StepPlace::Items),
+        )?;
+        check_eq(
+            Stock.step(2, 1, 2, (shelf, shelf), 1),
+            Err(StepPlace::Items),
+        )?;
+        check_eq(
+            Stock.step(2, 1, 0, (shelf, shelf), 10001),
+            Err(StepPlace::Amount),
+        )?;
+        check_eq(
+            Stock.step(2, 1, 0, (shelf, shelf), 7),
+            Err(StepPlace::Values),
+        ).note("more than the shelf takes")?;
+        check_eq(
+            Stock.step(3, 1, 0, (shelf, shelf), 5),
+            Err(StepPlace::Values),
+        ).note("more than it holds")?;
+        check_eq(Stock.step(3, 1, 0, (shelf, 0), 4), Err(StepPlace::Values)).note(
+            "more than the sums hold",
+        )
     }
 
     #[test]
@@ -110,9 +134,15 @@ mod tests {
     #[test]
     fn scripts_that_are_fine(rt: LibcRuntime) -> Result<(), Fail> {
         check_eq(replies(&rt, b"")?.as_str(), "")?;
-        check_eq(replies(&rt, b"\n \t\r\n# a comment\nbook ledger")?.as_str(), "")?;
         check_eq(
-            replies(&rt, b"book ledger # money\r\n\tnote  receipt 00 8 4500#paid\r\n")?.as_str(),
+            replies(&rt, b"\n \t\r\n# a comment\nbook ledger")?.as_str(),
+            "",
+        )?;
+        check_eq(
+            replies(
+                &rt,
+                b"book ledger # money\r\n\tnote  receipt 00 8 4500#paid\r\n",
+            )?.as_str(),
             "line 2: note made: kind 1, procedure 2, a 0, b 8, n 4500\n",
         )
     }
@@ -126,7 +156,9 @@ mod tests {
         bad_at(&rt, b"\n\nbook ledger\nnote", 4)?;
         bad_at(&rt, b"book stock\nnote charge 1 0 1", 2).note("a word of the other book")?;
         bad_at(&rt, b"book stock\nnote take 1 0 1 1", 2)?;
-        bad_at(&rt, b"book stock\nnote take 1 0 18446744073709551616", 2).note("more than 64 bits")?;
+        bad_at(&rt, b"book stock\nnote take 1 0 18446744073709551616", 2).note(
+            "more than 64 bits",
+        )?;
         bad_at(&rt, b"book stock\nnote take 1 0 -1", 2)?;
         bad_at(&rt, b"book stock\nnote take 1 0 +1", 2)?;
         bad_at(&rt, b"# caf\xc3\xa9", 1).note("no ASCII text")?;

@@ -9,7 +9,12 @@ use Rattle.monitor.specs.declared.numbers.Entered.{Entered}
 
 abbrev pub numbers-of : Note → Numbers
 numbers-of note = record {
-  kind = note .kind; procedure = note .procedure; a = note .a; b = note .b; amount = note .amount }
+  kind = note .kind;
+  procedure = note .procedure;
+  a = note .a;
+  b = note .b;
+  amount = note .amount;
+}
 
 abbrev pub entered-of : Slip → Entered
 entered-of slip = record { numbers = numbers-of (slip .note); enterer = slip .enterer; house = slip .house }

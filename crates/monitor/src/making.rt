@@ -8,25 +8,52 @@ use refusals::Reason;
 use refusals::Refusal;
 
 /// Makes a note of typed numbers, or says which of them is at fault.
-pub fn make_note<B: Book>(book: &B, procedure: u64, a: u64, b: u64, amount: u64) -> Result<Note, Refusal>
+pub fn make_note<B: Book>(
+    book: &B,
+    procedure: u64,
+    a: u64,
+    b: u64,
+    amount: u64,
+) -> Result<Note, Refusal>
     ensures value { λ r. ⌜ made-of r ≡ noted (B·Book .meaning) procedure a b amount ⌝ }
 {
     if procedure < 1 || procedure > book.procedures() {
-        return Err(Refusal { reason: Reason::NoSuchProcedure, place: procedure });
+        return Err(Refusal {
+            reason: Reason::NoSuchProcedure,
+            place: procedure,
+        });
     }
     if a > 63 {
-        return Err(Refusal { reason: Reason::NoSuchNoteItem, place: a });
+        return Err(Refusal {
+            reason: Reason::NoSuchNoteItem,
+            place: a,
+        });
     }
     if b > 63 {
-        return Err(Refusal { reason: Reason::NoSuchNoteItem, place: b });
+        return Err(Refusal {
+            reason: Reason::NoSuchNoteItem,
+            place: b,
+        });
     }
     if b == a {
-        return Err(Refusal { reason: Reason::SameItem, place: b });
+        return Err(Refusal {
+            reason: Reason::SameItem,
+            place: b,
+        });
     }
     if amount < 1 || amount > book.largest_amount() {
-        return Err(Refusal { reason: Reason::BadAmount, place: amount });
+        return Err(Refusal {
+            reason: Reason::BadAmount,
+            place: amount,
+        });
     }
-    Ok(Note { kind: book.kind_number(), procedure: procedure as u8, a: a as u8, b: b as u8, amount })
+    Ok(Note {
+        kind: book.kind_number(),
+        procedure: procedure as u8,
+        a: a as u8,
+        b: b as u8,
+        amount,
+    })
 }
 
 impl Note {
@@ -34,6 +61,12 @@ impl Note {
     pub fn numbers(&self) -> Numbers
         ensures value { λ r. ⌜ r ≡ numbers-of (now (self .entry)) ⌝ }
     {
-        Numbers { kind: self.kind, procedure: self.procedure, a: self.a, b: self.b, amount: self.amount }
+        Numbers {
+            kind: self.kind,
+            procedure: self.procedure,
+            a: self.a,
+            b: self.b,
+            amount: self.amount,
+        }
     }
 }

@@ -15,6 +15,11 @@ impl Drop for Slip {
     fn drop(self)
         requires is_spent { ⌜ self .spent ≡ true ⌝ }
     {
-        let Slip { note: _, enterer: _, house: _, spent: _ } = self;
+        let Slip {
+            note: _,
+            enterer: _,
+            house: _,
+            spent: _,
+        } = self;
     }
 }

@@ -13,7 +13,12 @@ impl Slip {
         ensures names_house { λ r. ⌜ r .house ≡ house ⌝ }
         ensures unspent { λ r. ⌜ r .spent ≡ false ⌝ }
     {
-        Slip { note, enterer, house, spent: false }
+        Slip {
+            note,
+            enterer,
+            house,
+            spent: false,
+        }
     }
 
     /// Ends the slip without a posting, and hands out its numbers.
@@ -21,25 +26,10 @@ impl Slip {
         ensures value { λ r. ⌜ r ≡ entered-of self ⌝ }
     {
         self.spent = true;
-        Entered { numbers: self.note.numbers(), enterer: self.enterer, house: self.house }
-    }
-}
-
-#[cfg(test)]
-mod tests {
-    use crate::making::make_note;
-    use crate::slip::Slip;
-    use books::Ledger;
-    use books::LedgerBook;
-    use refusals::RefusalDebug;
-    use std::test::*;
-
-    #[test]
-    fn a_withdrawn_slip_hands_out_its_numbers() -> Result<(), Fail> {
-        let note = make_note(&Ledger, 1, 8, 0, 4500)?;
-        let entered = Slip::of(note, 3, 77).withdraw();
-        check_eq((entered.enterer, entered.house), (3, 77))?;
-        check_eq((entered.numbers.kind, entered.numbers.procedure), (1, 1))?;
-        check_eq((entered.numbers.a, entered.numbers.b, entered.numbers.amount), (8, 0, 4500))
+        Entered {
+            numbers: self.note.numbers(),
+            enterer: self.enterer,
+            house: self.house,
+        }
     }
 }

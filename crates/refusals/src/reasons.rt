@@ -98,7 +98,10 @@ impl Reason {
         ensures value { λ r. ⌜ r ≡ layer-of self ⌝ }
     {
         match self {
-            Reason::NoSuchProcedure | Reason::NoSuchNoteItem | Reason::SameItem | Reason::BadAmount => Layer::Note,
+            Reason::NoSuchProcedure
+            | Reason::NoSuchNoteItem
+            | Reason::SameItem
+            | Reason::BadAmount => Layer::Note,
             Reason::BadScript => Layer::House,
             Reason::PowerLost | Reason::BadSize => Layer::Drive,
             Reason::BadCommitBlock => Layer::Journal,
@@ -127,11 +130,15 @@ impl Reason {
             Reason::StepRefused | Reason::InvalidAfter => Some(Rule::C2),
             Reason::SamePerson => Some(Rule::C3),
             Reason::AuditFull | Reason::BadRecord => Some(Rule::C4),
-            Reason::NoSuchProcedure | Reason::NoSuchNoteItem | Reason::SameItem | Reason::BadAmount => Some(Rule::C5),
+            Reason::NoSuchProcedure
+            | Reason::NoSuchNoteItem
+            | Reason::SameItem
+            | Reason::BadAmount => Some(Rule::C5),
             Reason::Foreign | Reason::BlockDiffers => Some(Rule::E1),
-            Reason::EntererNotEntitled | Reason::CountersignerNotEntitled | Reason::BadRow | Reason::RowTaken => {
-                Some(Rule::E2)
-            }
+            Reason::EntererNotEntitled
+            | Reason::CountersignerNotEntitled
+            | Reason::BadRow
+            | Reason::RowTaken => { Some(Rule::E2) }
             Reason::BadWord => Some(Rule::E3),
             Reason::BadScript
             | Reason::Shut

@@ -34,6 +34,9 @@ pub impl fmt::Display for Refusal as RefusalDisplay {
         let rule = rule_text(self.reason.rule());
         let place = self.place;
         let meaning = self.reason.meaning();
-        write!(f, "refusal {number} ({layer}, {rule}), place {place}: {meaning}")
+        write!(
+            f,
+            "refusal {number} ({layer}, {rule}), place {place}: {meaning}"
+        )
     }
 }

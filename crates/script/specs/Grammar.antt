@@ -8,8 +8,8 @@ use Rattle.std.specs.declared.option.Option.{Option}
 use Rattle.std.specs.declared.option.Option.the-variants.{Some, None}
 use Rattle.books.specs.Meaning.{Meaning}
 use Rattle.books.specs.Words.{named}
-use Rattle.books.specs.Ledger.{ledger}
-use Rattle.books.specs.Stock.{stock}
+use Rattle.ledger.specs.Ledger.{ledger}
+use Rattle.stock.specs.Stock.{stock}
 use Rattle.lists.specs.Every.{all}
 use Rattle.lexer.specs.Pieces.{printable, words, uncommented}
 use Rattle.lexer.specs.Numerals.{typed-number}

@@ -8,15 +8,15 @@ ghost use Rattle.script.specs.Grammar.{book-named, typed-procedure, first, non
 use crate::line::BookName;
 use crate::line::Line;
 use crate::line::TypedNote;
-use books::Ledger;
-use books::LedgerBook;
-use books::Stock;
-use books::StockBook;
 use books::procedure_named;
+use ledger::Ledger;
+use ledger::LedgerBook;
 use lexer::Words;
 use lexer::is_text;
 use lexer::typed_number;
 use lexer::without_comment;
+use stock::Stock;
+use stock::StockBook;
 
 /// Whether a word spells a text.
 fn spells(word: &[u8], text: &str) -> bool
@@ -85,7 +85,11 @@ fn choice_of(words: &mut Words) -> Option<Line>
     ensures value { λ r. ⌜ r ≡ choice (words-left (now (words .entry))) ⌝ }
 {
     let book = next_book(words)?;
-    if at_end(words) { Some(Line::Chooses(book)) } else { None }
+    if at_end(words) {
+        Some(Line::Chooses(book))
+    } else {
+        None
+    }
 }
 
 /// The rest of a line that begins with `note`.
@@ -96,7 +100,17 @@ fn note_from(book: BookName, words: &mut Words) -> Option<Line>
     let a = next_number(words)?;
     let b = next_number(words)?;
     let amount = next_number(words)?;
-    if at_end(words) { Some(Line::Types(TypedNote { book, procedure, a, b, amount })) } else { None }
+    if at_end(words) {
+        Some(Line::Types(TypedNote {
+            book,
+            procedure,
+            a,
+            b,
+            amount,
+        }))
+    } else {
+        None
+    }
 }
 
 /// What a line says by its words, under the book that is chosen above it.

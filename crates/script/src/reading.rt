@@ -18,7 +18,10 @@ pub fn read_script(heap: Global, text: &[u8]) -> Result<Script, AllocError>
 {
     let mut commands = Vec::new(heap);
     if text.len() > LONGEST {
-        return Ok(Script { commands, bad_line: Some(0) });
+        return Ok(Script {
+            commands,
+            bad_line: Some(0),
+        });
     }
     let mut lines = Lines::of(text);
     let mut book = None;
@@ -26,11 +29,20 @@ pub fn read_script(heap: Global, text: &[u8]) -> Result<Script, AllocError>
     while let Some(line) = lines.next_line() {
         number += 1;
         match understand(book, line) {
-            None => return Ok(Script { commands, bad_line: Some(number) }),
+            None => return Ok(Script {
+                commands,
+                bad_line: Some(number),
+            }),
             Some(Line::Nothing) => {}
             Some(Line::Chooses(name)) => book = Some(name),
-            Some(Line::Types(typed)) => commands.push(Command { line: number, typed })?,
+            Some(Line::Types(typed)) => commands.push(Command {
+                line: number,
+                typed,
+            })?,
         }
     }
-    Ok(Script { commands, bad_line: None })
+    Ok(Script {
+        commands,
+        bad_line: None,
+    })
 }

@@ -26,7 +26,10 @@ pub impl fmt::Display for Reply as ReplyDisplay {
                 let a = note.a;
                 let b = note.b;
                 let n = note.amount;
-                write!(f, "line {line}: note made: kind {kind}, procedure {procedure}, a {a}, b {b}, n {n}")
+                write!(
+                    f,
+                    "line {line}: note made: kind {kind}, procedure {procedure}, a {a}, b {b}, n {n}"
+                )
             }
             Err(refusal) => write!(f, "line {line}: {refusal}"),
         }

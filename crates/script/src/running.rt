@@ -11,16 +11,16 @@ use crate::line::TypedNote;
 use crate::reading::read_script;
 use crate::reply::Reply;
 use books::Book;
-use books::Ledger;
-use books::LedgerBook;
-use books::Stock;
-use books::StockBook;
+use ledger::Ledger;
+use ledger::LedgerBook;
 use monitor::Numbers;
 use monitor::make_note;
 use refusals::Reason;
 use refusals::Refusal;
 use std::alloc::AllocError;
 use std::alloc::Global;
+use stock::Stock;
+use stock::StockBook;
 
 /// Makes the typed note in a book.
 fn note_in<B: Book>(book: &B, typed: TypedNote) -> Result<Numbers, Refusal>
@@ -38,7 +38,10 @@ pub fn answer_command(command: Command) -> Reply
         BookName::Ledger => note_in(&Ledger, command.typed),
         BookName::Stock => note_in(&Stock, command.typed),
     };
-    Reply { line: command.line, answer }
+    Reply {
+        line: command.line,
+        answer,
+    }
 }
 
 /// Answers commands in their order. It fails only for want of memory.
@@ -60,7 +63,13 @@ pub fn run_script(heap: Global, text: &[u8]) -> Result<Vec<Reply>, AllocError>
     let script = read_script(heap, text)?;
     let mut answered = answer_all(heap, script.commands.as_slice())?;
     if let Some(line) = script.bad_line {
-        answered.push(Reply { line, answer: Err(Refusal { reason: Reason::BadScript, place: line }) })?;
+        answered.push(Reply {
+            line,
+            answer: Err(Refusal {
+                reason: Reason::BadScript,
+                place: line,
+            }),
+        })?;
     }
     Ok(answered)
 }
