@@ -18,34 +18,19 @@ pub fn make_note<B: Book>(
     ensures value { λ r. ⌜ made-of r ≡ noted (B·Book .meaning) procedure a b amount ⌝ }
 {
     if procedure < 1 || procedure > book.procedures() {
-        return Err(Refusal {
-            reason: Reason::NoSuchProcedure,
-            place: procedure,
-        });
+        return Err(Refusal::at(Reason::NoSuchProcedure, procedure));
     }
     if a > 63 {
-        return Err(Refusal {
-            reason: Reason::NoSuchNoteItem,
-            place: a,
-        });
+        return Err(Refusal::at(Reason::NoSuchNoteItem, a));
     }
     if b > 63 {
-        return Err(Refusal {
-            reason: Reason::NoSuchNoteItem,
-            place: b,
-        });
+        return Err(Refusal::at(Reason::NoSuchNoteItem, b));
     }
     if b == a {
-        return Err(Refusal {
-            reason: Reason::SameItem,
-            place: b,
-        });
+        return Err(Refusal::at(Reason::SameItem, b));
     }
     if amount < 1 || amount > book.largest_amount() {
-        return Err(Refusal {
-            reason: Reason::BadAmount,
-            place: amount,
-        });
+        return Err(Refusal::at(Reason::BadAmount, amount));
     }
     Ok(Note {
         kind: book.kind_number(),

@@ -14,6 +14,16 @@ pub struct Refusal {
     pub place: u64,
 }
 
+impl Refusal {
+    /// The refusal for a reason, at a place.
+    pub fn at(reason: Reason, place: u64) -> Refusal
+        ensures names_reason { λ r. ⌜ r .reason ≡ reason ⌝ }
+        ensures names_place { λ r. ⌜ r .place ≡ place ⌝ }
+    {
+        Refusal { reason, place }
+    }
+}
+
 /// The rule's name, or that there is none.
 fn rule_text(rule: Option<Rule>) -> &'static str
     ensures value { λ r. ⌜ now r ≡ guarded rule ⌝ }

@@ -65,10 +65,7 @@ pub fn run_script(heap: Global, text: &[u8]) -> Result<Vec<Reply>, AllocError>
     if let Some(line) = script.bad_line {
         answered.push(Reply {
             line,
-            answer: Err(Refusal {
-                reason: Reason::BadScript,
-                place: line,
-            }),
+            answer: Err(Refusal::at(Reason::BadScript, line)),
         })?;
     }
     Ok(answered)
