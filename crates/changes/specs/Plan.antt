@@ -21,6 +21,10 @@ number p i = getD (p .numbers) i 0
 abbrev pub content : Plan → ℕ → List ℕ
 content p i = getD (p .contents) i []
 
+-- the number of the last block, which is the highest
+abbrev pub last : Plan → ℕ
+last p = number p (p .count - 1)
+
 -- a home block has a number from 7 that two bytes hold
 abbrev pub home-number : ℕ → Bool
 home-number b = leb 7 b && leb b 65535
@@ -31,7 +35,7 @@ of-one b x = record { count = 1; numbers = set (replicate 6 0) 0 b; contents = s
 
 -- one more block fits behind the others: there is room, and its number is above theirs
 abbrev pub takes : Plan → ℕ → Bool
-takes p b = ltb (p .count) 6 && (ltb (number p (p .count - 1)) b && leb b 65535)
+takes p b = ltb (p .count) 6 && (ltb (last p) b && leb b 65535)
 
 abbrev pub with-more : Plan → ℕ → List ℕ → Plan
 with-more p b x = record {

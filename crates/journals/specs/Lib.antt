@@ -1,0 +1,4 @@
+pub mod Redo
+pub mod Standing
+pub mod Steps
+pub mod Outcomes
