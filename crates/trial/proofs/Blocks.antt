@@ -1,5 +1,5 @@
 -- The blocks in a run of bytes, and what a write of one of them makes of them.
-use Prim.Native.Nat.{ℕ, _+_, _-_, _*_, _/_, _<_, _≤_, min}
+use Prim.Native.Nat.{ℕ, _+_, _-_, _*_, _/_, _<_}
 use native.Mathlib.Omega.{arith}
 use mathlib.Core.Path.{_≡_, sym, ap, subst, _∙_}
 use mathlib.Core.List.{List, [], _++_}
@@ -8,7 +8,8 @@ use lib.ListN.{length, getD, set, take, drop}
 use borrow.Rule.Slice.PartMut.{putMid}
 use Rattle.std.proofs.shelf.Counted.{length-map-counting, getD-map-counting}
 use Rattle.std.proofs.shelf.Parts.{between-is, take-putMid-below, drop-putMid, between-putMid}
-use Rattle.std.proofs.shelf.Lists.{length-set, length-take, length-drop, length-append, drop-drop, getD-set-same, getD-set-other, ext-getD}
+use Rattle.std.proofs.shelf.Lists.{length-set, length-take, length-drop, length-append}
+use Rattle.std.proofs.shelf.Lists.{drop-drop, getD-set-same, getD-set-other, ext-getD}
 use Rattle.std.proofs.shelf.Tests.{cases-eq, cases-lt}
 use Rattle.trial.specs.Bytes.{blocks-of, with-block}
 
@@ -38,20 +39,27 @@ module _ (bs : List ℕ) (b : ℕ) (x : List ℕ) (within : b < length bs / 64) 
   length-with : length (with-block bs b x) ≡ length bs
   length-with = simp (length-append, length-take, length-drop) (omega arith)
 
+  -- the bytes after it
+  abbrev after : List ℕ
+  after = putMid (64 * b) 64 bs x
+
   -- every other block is the one that it was
-  other-block : (k : ℕ) → k ≢ b → take 64 (drop (64 * k) (putMid (64 * b) 64 bs x)) ≡ take 64 (drop (64 * k) bs)
+  other-block : (k : ℕ) → k ≢ b → take 64 (drop (64 * k) after) ≡ take 64 (drop (64 * k) bs)
   other-block k ne =
-      elim (cases-lt k b) [ inl h ↦ (let s : 64 * k + 64 - 64 * k ≡ 64 = omega arith in
-          let t = take-putMid-below (64 * b) 64 bs x (64 * k + 64) (omega arith) (omega arith) in
-          let u = between-is (putMid (64 * b) 64 bs x) (64 * k) (64 * k + 64) ∙ ap (λ y. drop (64 * k) y) t ∙ sym (between-is bs (64 * k) (64 * k + 64)) in
-          subst (λ n. take n (drop (64 * k) (putMid (64 * b) 64 bs x)) ≡ take n (drop (64 * k) bs)) s u)
-      | inr h ↦ ap (λ y. take 64 y) (drop-putMid (64 * b) 64 bs x (64 * k) (omega arith) (omega arith) full) ]
+      elim (cases-lt k b) [
+        | inl h ↦ (let end = 64 * k + 64 in
+            let t = take-putMid-below (64 * b) 64 bs x end (omega arith) (omega arith) in
+            let u = between-is after (64 * k) end ∙ ap (λ y. drop (64 * k) y) t ∙ sym (between-is bs (64 * k) end) in
+            let n : end - 64 * k ≡ 64 = omega arith in
+            subst (λ n. take n (drop (64 * k) after) ≡ take n (drop (64 * k) bs)) n u)
+        | inr h ↦ ap (λ y. take 64 y) (drop-putMid (64 * b) 64 bs x (64 * k) (omega arith) (omega arith) full)
+      ]
 
   -- block b is the new content
-  own-block : take 64 (drop (64 * b) (putMid (64 * b) 64 bs x)) ≡ x
+  own-block : take 64 (drop (64 * b) after) ≡ x
   own-block =
-      let s : 64 * b + 64 - 64 * b ≡ 64 = omega arith in
-      subst (λ n. take n (drop (64 * b) (putMid (64 * b) 64 bs x)) ≡ x) s (between-putMid (64 * b) 64 bs x (64 * b + 64) (omega arith) (omega arith))
+      let n : 64 * b + 64 - 64 * b ≡ 64 = omega arith in
+      subst (λ n. take n (drop (64 * b) after) ≡ x) n (between-putMid (64 * b) 64 bs x (64 * b + 64) (omega arith) (omega arith))
 
   -- so the blocks are those that were, with block b replaced
   pub blocks-with : blocks-of (with-block bs b x) ≡ set (blocks-of bs) b x
@@ -60,7 +68,9 @@ module _ (bs : List ℕ) (b : ℕ) (x : List ℕ) (within : b < length bs / 64) 
       ext-getD [] (blocks-of cs) (set (blocks-of bs) b x)
       (length-blocks cs ∙ ap (λ n. n / 64) length-with ∙ sym (length-blocks bs) ∙ sym (length-set (blocks-of bs) b x))
       (λ k h. let m : k < length cs / 64 = omega (arith, length-blocks cs) in
-        let n : k < length bs / 64 = subst (λ z. k < z / 64) length-with m in
-        block-at cs k [] m ∙ ap (λ y. take 64 (drop (64 * k) y)) (sym (with-put bs b x)) ∙
-        elim (cases-eq k b) [ inl z ↦ rw z (own-block ∙ sym (getD-set-same (blocks-of bs) b x [] (omega (arith, length-blocks bs))))
-        | inr ne ↦ other-block k ne ∙ sym (block-at bs k [] n) ∙ sym (getD-set-other (blocks-of bs) b k x [] ne) ])
+      let n : k < length bs / 64 = subst (λ z. k < z / 64) length-with m in
+      block-at cs k [] m ∙ ap (λ y. take 64 (drop (64 * k) y)) (sym (with-put bs b x)) ∙
+      elim (cases-eq k b) [
+        | inl z ↦ rw z (own-block ∙ sym (getD-set-same (blocks-of bs) b x [] (omega (arith, length-blocks bs))))
+        | inr ne ↦ other-block k ne ∙ sym (block-at bs k [] n) ∙ sym (getD-set-other (blocks-of bs) b k x [] ne)
+      ])

@@ -12,6 +12,9 @@ use Rattle.trial.specs.State.{State, power}
 use Rattle.trial.specs.declared.fuse.Fuse.{Fuse}
 
 -- a power call with a cut number left takes the first
-pub takes-next : (bytes : List ℕ) (on : Bool) (cuts : List ℕ) (fuse : Fuse) → false ≡ eqb (length cuts) 0 → _≡_ {A = State} (record { bytes = bytes; on = true; cuts = take (length cuts - 1) (drop 1 cuts); fuse = fuse-of (getD cuts 0 0) }) (power (record { bytes = bytes; on = on; cuts = cuts; fuse = fuse }))
+pub takes-next : (bytes : List ℕ) (on : Bool) (cuts : List ℕ) (fuse : Fuse) → false ≡ eqb (length cuts) 0
+    → _≡_ {A = State} (record { bytes = bytes; on = true; cuts = take (length cuts - 1) (drop 1 cuts); fuse = fuse-of (getD cuts 0 0) })
+    (power (record { bytes = bytes; on = on; cuts = cuts; fuse = fuse }))
 takes-next bytes on [] fuse h = absurd (true≢false (sym h))
-takes-next bytes on (cut ∷ cuts) fuse h = ap (λ z. record { bytes = bytes; on = true; cuts = z; fuse = fuse-of cut }) (take-rest (cut ∷ cuts) 1)
+takes-next bytes on (cut ∷ cuts) fuse h =
+    ap (λ z. record { bytes = bytes; on = true; cuts = z; fuse = fuse-of cut }) (take-rest (cut ∷ cuts) 1)
