@@ -60,13 +60,16 @@ read-buffer (Some e) s b buffer = buffer
 abbrev pub write-by : Turn → State → ℕ → List ℕ → Outcome
 write-by Done s b x = record {
   answer = Ok tt;
-  state = record { bytes = with-block (s .bytes) b x; on = true; cuts = s .cuts; fuse = burnt (s .fuse) } }
+  state = record { bytes = with-block (s .bytes) b x; on = true; cuts = s .cuts; fuse = burnt (s .fuse) };
+}
 write-by (Lost true) s b x = record {
   answer = Err PowerLost;
-  state = record { bytes = with-block (s .bytes) b x; on = false; cuts = s .cuts; fuse = burnt (s .fuse) } }
+  state = record { bytes = with-block (s .bytes) b x; on = false; cuts = s .cuts; fuse = burnt (s .fuse) };
+}
 write-by (Lost false) s b x = record {
   answer = Err PowerLost;
-  state = record { bytes = s .bytes; on = false; cuts = s .cuts; fuse = burnt (s .fuse) } }
+  state = record { bytes = s .bytes; on = false; cuts = s .cuts; fuse = burnt (s .fuse) };
+}
 
 abbrev pub write-unless : Option DriveFault → State → ℕ → List ℕ → Outcome
 write-unless None s b x = write-by (turn (s .fuse)) s b x
@@ -78,9 +81,13 @@ write s b x = write-unless (fault s b (length x)) s b x
 -- a flush that is done or loses power: either way every block holds what it held
 abbrev pub flush-by : Turn → State → Outcome
 flush-by Done s = record {
-  answer = Ok tt; state = record { bytes = s .bytes; on = true; cuts = s .cuts; fuse = burnt (s .fuse) } }
+  answer = Ok tt;
+  state = record { bytes = s .bytes; on = true; cuts = s .cuts; fuse = burnt (s .fuse) };
+}
 flush-by (Lost lands) s = record {
-  answer = Err PowerLost; state = record { bytes = s .bytes; on = false; cuts = s .cuts; fuse = burnt (s .fuse) } }
+  answer = Err PowerLost;
+  state = record { bytes = s .bytes; on = false; cuts = s .cuts; fuse = burnt (s .fuse) };
+}
 
 abbrev pub flush : State → Outcome
 flush s = cond (s .on) (flush-by (turn (s .fuse)) s) (refused Off s)

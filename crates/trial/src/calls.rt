@@ -37,7 +37,11 @@ impl<'a> TrialDrive<'a> {
     pub fn over(bytes: &'a mut [u8], cuts: &'a [u16]) -> TrialDrive<'a>
         ensures state { λ r. ⌜ state-of r ≡ fresh (now (bytes .entry)) (now (cuts .entry)) ⌝ }
     {
-        let taken = if cuts.len() > MOST_CUTS { &cuts[0..MOST_CUTS] } else { cuts };
+        let taken = if cuts.len() > MOST_CUTS {
+            &cuts[0..MOST_CUTS]
+        } else {
+            cuts
+        };
         TrialDrive {
             bytes,
             on: false,
