@@ -3,6 +3,7 @@
 mod change;
 mod commit;
 mod growing;
+mod reading;
 
 pub use change::Change;
 pub use commit::commit_blocks_round_trip;
