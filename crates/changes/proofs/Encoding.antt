@@ -23,9 +23,13 @@ pub by-place : (P : ℕ → Type 0) → P 0 → P 1 → ((i : ℕ) → i < 6 →
 by-place P count none low high past zero = count
 by-place P count none low high past (suc zero) = none
 by-place P count none low high past (suc (suc k)) =
-    elim (cases-lt k 12) [ inr h ↦ past (suc (suc k)) (omega arith)
-    | inl h ↦ elim (cases-eq (k % 2) 0) [ inl e ↦ (let q : 2 + 2 * (k / 2) ≡ suc (suc k) = omega arith in subst P q (low (k / 2) (omega arith)))
-      | inr ne ↦ (let q : 3 + 2 * (k / 2) ≡ suc (suc k) = omega arith in subst P q (high (k / 2) (omega arith))) ] ]
+    elim (cases-lt k 12) [
+      | inr h ↦ past (suc (suc k)) (omega arith)
+      | inl h ↦ elim (cases-eq (k % 2) 0) [
+        | inl e ↦ (let q : 2 + 2 * (k / 2) ≡ suc (suc k) = omega arith in subst P q (low (k / 2) (omega arith)))
+        | inr ne ↦ (let q : 3 + 2 * (k / 2) ≡ suc (suc k) = omega arith in subst P q (high (k / 2) (omega arith)))
+      ]
+    ]
 
 -- a run of numbers, two bytes each: the two of the number at a place
 pair-at : (ns zs : List ℕ) (i : ℕ) → i < length ns → (getD (joined two-bytes ns ++ zs) (2 * i) 0 ≡ getD ns i 0 % 256) × (getD (joined two-bytes ns ++ zs) (suc (2 * i)) 0 ≡ getD ns i 0 / 256 % 256)
@@ -87,7 +91,8 @@ rises-back size n ns s r =
     record {
       rise = λ i j h k. omega (arith, number-back n ns s i (omega arith), number-back n ns s j k, r .rise i j h k);
       low = λ i h. omega (arith, number-back n ns s i h, r .low i h);
-      high = λ i h. omega (arith, number-back n ns s i h, r .high i h) }
+      high = λ i h. omega (arith, number-back n ns s i h, r .high i h);
+    }
 
 -- the commit block of rising numbers is lawful
 pub lawful-from-rises : (size n : ℕ) (ns : List ℕ) → Six n ns → Rises size n (λ i. getD ns i 0) → Lawful size (commit-block n ns)

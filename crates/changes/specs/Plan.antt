@@ -35,4 +35,7 @@ takes p b = ltb (p .count) 6 && (ltb (number p (p .count - 1)) b && leb b 65535)
 
 abbrev pub with-more : Plan → ℕ → List ℕ → Plan
 with-more p b x = record {
-  count = p .count + 1; numbers = set (p .numbers) (p .count) b; contents = set (p .contents) (p .count) x }
+  count = p .count + 1;
+  numbers = set (p .numbers) (p .count) b;
+  contents = set (p .contents) (p .count) x;
+}

@@ -16,13 +16,21 @@ impl Change {
     pub fn number(&self, place: usize) -> u64
         ensures value { λ r. ⌜ r ≡ number (plan-of (now (self .entry))) place ⌝ }
     {
-        if place < 6 { self.numbers[place] as u64 } else { 0 }
+        if place < 6 {
+            self.numbers[place] as u64
+        } else {
+            0
+        }
     }
 
     /// What its block at a place is to hold.
     pub fn content(&self, place: usize) -> Option<&[u8; 64]>
         ensures value { λ r. ⌜ BySome r (plan-of (now (self .entry)) .count ≤ place) (λ x. now x ≡ content-at (plan-of (now (self .entry))) place) ⌝ }
     {
-        if place < self.count { Some(&self.contents[place]) } else { None }
+        if place < self.count {
+            Some(&self.contents[place])
+        } else {
+            None
+        }
     }
 }

@@ -32,4 +32,6 @@ returns c =
     record {
       holds = record {
         written = λ size n ns s r. record { lawful = lawful-from-rises size n ns s r; count = count-back n ns; numbers = number-back n ns s };
-        read = λ size b k l. ext-getD 0 (commit-block (count-of b) (numbers-of b)) b (sym (k .sixty-four)) (λ i h. same-at size b k l i) } }
+        read = λ size b k l. ext-getD 0 (commit-block (count-of b) (numbers-of b)) b (sym (k .sixty-four)) (λ i h. same-at size b k l i);
+      };
+    }
