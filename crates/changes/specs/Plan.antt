@@ -1,6 +1,6 @@
 -- A change by its numbers: how many blocks, which, and what they are to hold.
 use Prim.Native.Nat.{ℕ, _+_, _-_}
-use mathlib.Core.List.{List, [], _∷_}
+use mathlib.Core.List.{List, []}
 use mathlib.Core.Bool.{Bool, _&&_}
 use lib.Dec.{leb, ltb}
 use lib.ListN.{getD, set, replicate}
@@ -39,4 +39,7 @@ takes p b = ltb (p .count) 6 && (ltb (last p) b && leb b 65535)
 
 abbrev pub with-more : Plan → ℕ → List ℕ → Plan
 with-more p b x = record {
-  count = p .count + 1; numbers = set (p .numbers) (p .count) b; contents = set (p .contents) (p .count) x }
+  count = p .count + 1;
+  numbers = set (p .numbers) (p .count) b;
+  contents = set (p .contents) (p .count) x;
+}

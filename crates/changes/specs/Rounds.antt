@@ -1,10 +1,9 @@
 -- A commit block is read back as it was written, and a lawful block is what its own reading writes.
-use Prim.Native.Nat.{ℕ, _<_, _≤_, _^_}
+use Prim.Native.Nat.{ℕ, _<_, _≤_}
 use mathlib.Core.Path.{_≡_}
-use mathlib.Core.List.{List, []}
+use mathlib.Core.List.{List, map}
 use lib.ListN.{length, getD}
 use Rattle.std.specs.Iters.{counting}
-use mathlib.Core.List.{map}
 use Rattle.changes.specs.Commit.{commit-block, count-of, number-of, Rises, Lawful}
 
 -- numbers that a commit block can hold: six, of which those past the count are zero

@@ -3,6 +3,13 @@ ghost use Rattle.changes.specs.Plan.{plan-of, last};
 use crate::change::Change;
 
 impl Change {
+    /// How many blocks the change has.
+    pub fn len(&self) -> usize
+        ensures value { λ r. ⌜ r ≡ plan-of (now (self .entry)) .count ⌝ }
+    {
+        self.count
+    }
+
     /// The number of its last block, which is the highest.
     pub fn last(&self) -> u64
         ensures value { λ r. ⌜ r ≡ last (plan-of (now (self .entry))) ⌝ }
