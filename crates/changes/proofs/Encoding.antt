@@ -11,6 +11,7 @@ use Rattle.std.proofs.shelf.Counted.{fill-by-all}
 use Rattle.std.proofs.shelf.Lists.{getD-append-right}
 use Rattle.std.proofs.shelf.Tests.{cases-eq, cases-lt}
 use Rattle.changes.specs.Commit.{two-bytes, commit-block, count-of, number-of, Rises, Lawful}
+use Rattle.changes.specs.Plan.{plan-of, number, last}
 use Rattle.changes.specs.Rounds.{Six}
 use Rattle.changes.specs.declared.change.Change.{Change}
 
@@ -99,5 +100,21 @@ pub lawful-from-rises : (size n : ℕ) (ns : List ℕ) → Six n ns → Rises si
 lawful-from-rises size n ns s r = record { few = s .few; rises = rises-back size n ns s r; rest = rest-zero n ns s }
 
 -- a change has six numbers, of which those past its count are zero
-pub six-of-change : (c : Change) → ((i : ℕ) → getD (c .numbers) i 0 < 65536) → Six (c .count) (c .numbers)
-six-of-change c h = record { six = c .«six_numbers»; few = c .few; past = c .past; two-bytes = h }
+pub six-of-change : (c : Change) → Six (c .count) (c .numbers)
+six-of-change c = record { six = c .«six_numbers»; few = c .few; past = c .past; two-bytes = c .«two_bytes» }
+
+-- its numbers rise below any size that is above the last of them
+pub change-rises : (c : Change) (size : ℕ) → last (plan-of c) < size → Rises size (c .count) (number (plan-of c))
+change-rises c size l =
+    record {
+      rise = c .rise;
+      low = c .low;
+      high = λ i h. elim (cases-eq i (c .count - 1)) [
+        | inl e ↦ omega (arith, ap (λ m. getD (c .numbers) m 0) e)
+        | inr ne ↦ omega (arith, c .rise i (c .count - 1) (omega (arith, c .some)) (omega (arith, c .some)))
+      ];
+    }
+
+-- a drive that has its blocks has a commit block and slots
+pub change-wide : (c : Change) (size : ℕ) → last (plan-of c) < size → 7 ≤ size
+change-wide c size l = omega (arith, c .low (c .count - 1) (omega (arith, c .some)))

@@ -14,5 +14,6 @@ pub struct Change {
     ghost six_contents: { length contents ≡ 6 },
     ghost rise: { (i j : ℕ) → i < j → j < count → getD numbers i 0 < getD numbers j 0 },
     ghost low: { (i : ℕ) → i < count → 7 ≤ getD numbers i 0 },
+    ghost two_bytes: { (i : ℕ) → getD numbers i 0 < 65536 },
     ghost past: { (i : ℕ) → count ≤ i → getD numbers i 0 ≡ 0 },
 }

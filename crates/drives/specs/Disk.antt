@@ -1,5 +1,5 @@
 -- What a drive means: its power, what each block holds now, and what each block may hold once power has failed.
-use Prim.Native.Nat.{ℕ, _<_}
+use Prim.Native.Nat.{ℕ}
 use mathlib.Core.Path.{_≡_}
 use mathlib.Core.List.{List, []}
 use mathlib.Core.Bool.{Bool, true}
@@ -13,7 +13,8 @@ pub record Disk : Type 0 where
   pub blocks : List (List ℕ)
   pub may : ℕ → List ℕ → Bool
 
--- what block i holds now; nothing beyond the drive
+-- what block i holds now; nothing beyond the drive. (That it is 64 bytes is said by read, which fills a buffer of 64
+-- bytes with it.)
 abbrev pub present : Disk → ℕ → List ℕ
 present d i = getD (d .blocks) i []
 
@@ -36,7 +37,3 @@ No-gain d e = (i : ℕ) (x : List ℕ) → May e i x → May d i x
 -- from d to e the set of block b gains at most x, and no other set gains
 abbrev pub Gains-only : Disk → ℕ → List ℕ → Disk → Type 0
 Gains-only d b x e = (i : ℕ) (y : List ℕ) → May e i y → May d i y ⊎ ((i ≡ b) × (y ≡ x))
-
--- every content of a block is 64 bytes
-abbrev pub Blocks-of-64 : Disk → Type 0
-Blocks-of-64 d = (i : ℕ) → i < size d → length (present d i) ≡ 64

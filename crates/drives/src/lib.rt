@@ -6,7 +6,7 @@ ghost use Prim.Native.Nat.{_<_, _≤_};
 ghost use lib.ListN.{length};
 ghost use Rattle.std.specs.Results.{Cases};
 ghost use Rattle.std.specs.declared.result.Result.the-variants.{Err};
-ghost use Rattle.drives.specs.Disk.{Disk, present, size as size-of, Blocks-of-64};
+ghost use Rattle.drives.specs.Disk.{Disk, present, size as size-of};
 ghost use Rattle.drives.specs.Calls.{Written, Cut-writing, Flushed, Cut, Powered};
 ghost use Rattle.drives.specs.declared.DriveFault.the-variants.{Off, NoSuchBlock, BadBuffer, PowerLost};
 
@@ -28,8 +28,6 @@ pub enum DriveFault {
 pub trait Drive {
     /// What the drive means.
     ghost disk: { Self → Disk };
-
-    law blocks_of_64: { (s : Self) → Blocks-of-64 (disk s) };
 
     /// How many blocks the drive has. This never changes.
     fn size(&self) -> u64

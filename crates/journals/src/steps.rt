@@ -57,7 +57,11 @@ pub fn set_commit<D: Drive>(drive: &mut D, commit: &[u8; 64]) -> Result<(), Driv
 }
 
 /// Fills the slots, and flushes: steps 1 and 2.
-pub fn stage<D: Drive>(drive: &mut D, contents: &[[u8; 64]; 6], count: usize) -> Result<(), DriveFault>
+pub fn stage<D: Drive>(
+    drive: &mut D,
+    contents: &[[u8; 64]; 6],
+    count: usize,
+) -> Result<(), DriveFault>
     requires on { ⌜ disk (now drive) .on ≡ true ⌝ }
     requires few { ⌜ count ≤ 6 ⌝ }
     requires wide { ⌜ 7 ≤ size (disk (now drive)) ⌝ }

@@ -23,12 +23,6 @@ pub block-at : (bs : List ℕ) (k : ℕ) (d : List ℕ) → k < length bs / 64 �
 unfolding blocks-of
 block-at bs k d h = getD-map-counting (λ k. take 64 (drop (64 * k) bs)) 0 (length bs / 64) k k d h (omega arith)
 
--- and so its content is 64 bytes
-pub block-length : (bs : List ℕ) (k : ℕ) → k < length (blocks-of bs) → length (getD (blocks-of bs) k []) ≡ 64
-block-length bs k h =
-    let m : k < length bs / 64 = omega (arith, length-blocks bs) in
-    ap length (block-at bs k [] m) ∙ simp (length-take, length-drop) (omega arith)
-
 -- the replaced block as the overwritten part of a slice
 pub with-put : (bs : List ℕ) (b : ℕ) (x : List ℕ) → putMid (64 * b) 64 bs x ≡ with-block bs b x
 with-put bs b x = ap (λ y. take (64 * b) bs ++ (x ++ y)) (drop-drop 64 (64 * b) bs)

@@ -1,3 +1,3 @@
-pub mod Blocks
-pub mod Cuts
-pub mod Kept
+mod Blocks
+mod Cuts
+mod Kept

@@ -38,6 +38,14 @@ module _ (ns : List ℕ) (n b : ℕ) where
         | inr ne ↦ omega (arith, there i ne, f i (omega arith))
       ]
 
+  -- two bytes hold each of them
+  in-two-bytes : n < length ns → ((i : ℕ) → getD ns i 0 < 65536) → b < 65536 → (i : ℕ) → getD (set ns n b) i 0 < 65536
+  in-two-bytes len f x i =
+      elim (cases-eq i n) [
+        | inl e ↦ omega (arith, getD-set-same ns n b 0 len, ap (λ m. getD (set ns n b) m 0) e)
+        | inr ne ↦ omega (arith, there i ne, f i)
+      ]
+
 pub ghost-self : need.ghost-self
 ghost-self c =
     let s = c .args .self .now in
@@ -54,8 +62,11 @@ ghost-self c =
               (
                 from-seven (s .numbers) (s .count) (c .args .block) few (s .low) (omega (arith, s .low (s .count - 1) (omega arith))),
                 (
-                  (λ i h. there (s .numbers) (s .count) (c .args .block) i (λ z. omega arith) ∙ s .past i (omega arith)),
-                  tt,
+                  in-two-bytes (s .numbers) (s .count) (c .args .block) few (s .«two_bytes») (omega arith),
+                  (
+                    (λ i h. there (s .numbers) (s .count) (c .args .block) i (λ z. omega arith) ∙ s .past i (omega arith)),
+                    tt,
+                  ),
                 ),
               ),
             ),
