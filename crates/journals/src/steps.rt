@@ -53,7 +53,7 @@ pub fn set_commit<D: Drive>(drive: &mut D, commit: &[u8; 64]) -> Result<(), Driv
     ensures sets { λ r. ⌜ Cases r (λ _. Sets (now (commit .entry)) (disk (now (drive .entry))) (disk (now (drive .exit)))) (λ _. Cut-setting (now (commit .entry)) (disk (now (drive .entry))) (disk (now (drive .exit)))) ⌝ }
 {
     drive.write(0, commit)?;
-    drive.flush()
+    D::flush(drive)
 }
 
 /// Fills the slots, and flushes: steps 1 and 2.
