@@ -1,20 +1,20 @@
 -- Where power may fail in steps 5 to 8, and what finishing leaves then.
-use Prim.Native.Nat.{ℕ, zero, suc, _+_, _*_, _<_, _≤_}
+use Prim.Native.Nat.{ℕ, _+_, _<_, _≤_}
 use native.Mathlib.Omega.{arith}
 use mathlib.Core.Path.{_≡_, refl, sym, ap, subst, _∙_}
-use mathlib.Core.List.{List, [], _∷_}
+use mathlib.Core.List.{List, []}
 use mathlib.Core.Bool.{true, false}
-use mathlib.Core.Logic.{_⊎_, inl, inr, _≢_}
-use lib.ListN.{length, getD, set, drop, replicate}
-use Rattle.std.proofs.shelf.Lists.{length-set, getD-set-same, getD-set-other, getD-replicate, getD-past, length-replicate, drop-set-lt}
+use mathlib.Core.Logic.{_⊎_, inl, inr}
+use lib.ListN.{length, getD, set}
+use Rattle.std.proofs.shelf.Lists.{length-set, getD-replicate, getD-past}
 use Rattle.std.proofs.shelf.Tests.{cases-eq, cases-lt}
-use Rattle.drives.specs.Disk.{Disk, May, Settled, No-gain, Gains-only}
+use Rattle.drives.specs.Disk.{Disk, Settled, Gains-only}
 use Rattle.drives.specs.Calls.{Written, Cut-writing, Flushed, Cut}
-use Rattle.changes.specs.Commit.{count-of, number-of, zeros, Rises, Lawful}
-use Rattle.journals.specs.Redo.{overlay, home, finished, slots}
-use Rattle.journals.specs.Standing.{Choice, Clear, Stands, Stands-alone, Finishable, Ready, Cut-off}
-use Rattle.journals.specs.Steps.{Gains, Wrote, Cut-wrote, Puts, Sets, Cut-putting, Cut-setting, Cut-redoing, Redoes}
-use Rattle.journals.proofs.Overlay.{overlay-length, overlay-cong, overlay-either, overlay-outside, home-same, finished-zero, finished-length, finished-low, finished-same}
+use Rattle.changes.specs.Commit.{count-of, number-of, zeros, Lawful}
+use Rattle.journals.specs.Redo.{overlay, home, finished}
+use Rattle.journals.specs.Standing.{Choice, Clear, Stands, Finishable, Cut-off}
+use Rattle.journals.specs.Steps.{Gains, Wrote, Cut-wrote, Cut-putting, Cut-setting, Cut-redoing, Redoes}
+use Rattle.journals.proofs.Overlay.{overlay-length, overlay-cong, overlay-either, home-same, finished-zero, finished-length, finished-low, finished-same}
 
 -- every way that power may fail is lawful, and what finishing leaves of it at home is as P says
 abbrev pub Ends : Disk → (List (List ℕ) → Type 0) → Type 0
@@ -149,3 +149,16 @@ redo-cut n ns xs d e r (inl (inr w)) = redo-cut-flush n ns xs d (w .0) e r (w .1
 redo-cut n ns xs d e r (inr (m, (a, u, f), c)) =
     let v = redo-flushed n ns xs d a m r u f in
     elim c [ inl w ↦ redo-cut-write n ns xs d m e r v w | inr t ↦ redo-cut-last n ns xs d m (t .0) e r v (t .1) (t .2) ]
+
+-- wherever the steps were cut, power is off
+pub putting-off : (n : ℕ) (ns : ℕ → ℕ) (xs : ℕ → List ℕ) (d e : Disk) → Cut-putting n ns xs d e → e .on ≡ false
+putting-off n ns xs d e (inl u) = u .off
+putting-off n ns xs d e (inr w) = w .2 .off
+
+pub setting-off : (c : List ℕ) (d e : Disk) → Cut-setting c d e → e .on ≡ false
+setting-off c d e (inl u) = u .off
+setting-off c d e (inr w) = w .2 .off
+
+pub redoing-off : (n : ℕ) (ns : ℕ → ℕ) (xs : ℕ → List ℕ) (d e : Disk) → Cut-redoing n ns xs d e → e .on ≡ false
+redoing-off n ns xs d e (inl u) = putting-off n ns xs d e u
+redoing-off n ns xs d e (inr w) = setting-off zeros (w .0) e (w .2)

@@ -4,17 +4,17 @@ use native.Mathlib.Omega.{arith}
 use mathlib.Core.Path.{_≡_, refl, sym, ap, subst, _∙_}
 use mathlib.Core.List.{List, []}
 use mathlib.Core.Bool.{true}
-use mathlib.Core.Logic.{_⊎_, inl, inr}
+use mathlib.Core.Logic.{inl, inr}
 use lib.ListN.{length, getD, set}
 use Rattle.std.proofs.shelf.Lists.{length-set, getD-set-same, getD-set-other, drop-set-lt, nil-from-length}
 use Rattle.drives.specs.Disk.{Disk, present, size, Settled}
 use Rattle.changes.specs.Commit.{count-of, number-of, zeros, Lawful}
-use Rattle.journals.specs.Redo.{overlay, slots, home, finished}
+use Rattle.journals.specs.Redo.{slots, home, finished}
 use Rattle.journals.specs.Standing.{Ready}
-use Rattle.journals.specs.Steps.{Gains, Wrote, Cut-wrote, Puts, Sets, Cut-putting, Cut-setting, Redoes, Cut-redoing}
+use Rattle.journals.specs.Steps.{Gains, Wrote, Puts, Cut-putting, Redoes, Cut-redoing}
 use Rattle.journals.specs.Outcomes.{Finished, Cut-finishing}
 use Rattle.journals.proofs.Overlay.{overlay-cong, finished-zero, finished-length, finished-low}
-use Rattle.journals.proofs.Crash.{clear-same, clear-lawful, lawful-clear, redo-blocks, redo-cut}
+use Rattle.journals.proofs.Crash.{clear-same, clear-lawful, lawful-clear, redo-blocks, redo-cut, redoing-off}
 use Rattle.journals.proofs.Whole.{ready-alone-at}
 
 -- steps with the same numbers and contents are the same steps
@@ -85,6 +85,7 @@ module _ (d e : Disk) (wide : 7 ≤ size d) (lawful : Lawful (size d) (present d
   pub finishing-cut : Cut-redoing (count-of (present d 0)) (number-of (present d 0)) (slots (d .blocks)) d e → Cut-finishing d e
   finishing-cut re =
       record {
+        off = redoing-off (count-of (present d 0)) (number-of (present d 0)) (slots (d .blocks)) d e re;
         steps = re;
         cut = λ t. redo-cut (count-of (present d 0)) (number-of (present d 0)) (slots (d .blocks)) d e (record { wide = wide; settled = t; lawful = lawful; count = refl; numbers = λ i h. refl; slots-hold = λ i h. refl }) re;
       }

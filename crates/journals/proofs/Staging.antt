@@ -3,13 +3,12 @@ use Prim.Native.Nat.{ℕ, zero, suc, _+_, _-_, _<_, _≤_}
 use native.Mathlib.Omega.{arith}
 use mathlib.Core.Path.{_≡_, refl, sym, ap, subst, _∙_}
 use mathlib.Core.List.{List, []}
-use mathlib.Core.Bool.{true}
 use mathlib.Core.Logic.{_⊎_, inl, inr}
 use lib.ListN.{length, getD, set, drop}
 use Rattle.std.proofs.shelf.Lists.{length-set, getD-set-same, getD-set-other, getD-drop, drop-set-lt}
 use Rattle.std.proofs.shelf.Tests.{cases-eq}
 use Rattle.drives.specs.Disk.{Disk, Settled, Gains-only}
-use Rattle.drives.specs.Calls.{Written, Cut-writing, Flushed, Cut}
+use Rattle.drives.specs.Calls.{Written, Cut-writing, Cut}
 use Rattle.changes.specs.Commit.{count-of, number-of, Rises, Lawful}
 use Rattle.journals.specs.Redo.{overlay, home, finished, slots}
 use Rattle.journals.specs.Standing.{Clear, Ready, Cut-off}

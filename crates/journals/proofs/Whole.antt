@@ -3,21 +3,21 @@ use Prim.Native.Nat.{ℕ, _+_, _<_, _≤_}
 use native.Mathlib.Omega.{arith}
 use mathlib.Core.Path.{_≡_, refl, sym, ap, subst, _∙_}
 use mathlib.Core.List.{List, []}
-use mathlib.Core.Logic.{_⊎_, inl, inr}
+use mathlib.Core.Logic.{inl}
 use lib.ListN.{length, getD, set}
 use Rattle.std.proofs.shelf.Lists.{length-set, getD-set-same, getD-set-other}
 use Rattle.drives.specs.Disk.{Disk, present, size}
 use Rattle.changes.specs.Commit.{commit-block, zeros, Rises}
 use Rattle.changes.specs.Plan.{Plan, number, content}
-use Rattle.journals.specs.Redo.{overlay, home, finished}
-use Rattle.journals.specs.Standing.{Stands, Stands-alone, Ready, Cut-off}
-use Rattle.journals.specs.Steps.{Puts, Sets, Redoes, Cut-putting, Cut-setting, Cut-redoing, Steps-done, Steps-cut, slot}
-use Rattle.journals.specs.Outcomes.{changed, Made, After, Cut-change}
+use Rattle.journals.specs.Redo.{overlay, home}
+use Rattle.journals.specs.Standing.{Stands-alone, Ready}
+use Rattle.journals.specs.Steps.{Puts, Sets, Redoes, Steps-done, Steps-cut, slot}
+use Rattle.journals.specs.Outcomes.{changed, Made, Cut-change}
 use Rattle.journals.specs.declared.place.Place.{Place}
 use Rattle.journals.specs.declared.place.Place.the-variants.{Staging, Committing, Applying}
 use Rattle.journals.proofs.Overlay.{overlay-length, overlay-outside, overlay-at, overlay-agree, home-same, finished-zero}
-use Rattle.journals.proofs.Crash.{ends-stands, clear-same, clear-lawful, redo-blocks, redo-cut}
-use Rattle.journals.proofs.Staging.{Encodes, Staged, Committed, slot-is, stage-cut, stage-done, commit-cut, commit-done, change-cut-commit, change-cut-redo, staged-redoing, ready-ends}
+use Rattle.journals.proofs.Crash.{ends-stands, clear-same, clear-lawful, redo-blocks, redo-cut, putting-off, setting-off, redoing-off}
+use Rattle.journals.proofs.Staging.{Encodes, slot-is, stage-cut, stage-done, commit-cut, commit-done, change-cut-commit, change-cut-redo, staged-redoing, ready-ends}
 
 -- what a ready journal has at home stands alone
 pub ready-alone : (d : Disk) → Ready d → Stands-alone d (home (d .blocks))
@@ -107,11 +107,12 @@ module _ (p : Plan) (d e : Disk) (few : p .count ≤ 6) (wide : 7 ≤ size d) (r
 
   -- cut at a place
   pub change-cut : (at : Place) → Encodes (p .count) (number p) (commit-block (p .count) (p .numbers)) → Steps-cut at p d e → Cut-change at p d e
-  change-cut Staging enc w = record { steps = w; cut = λ r. stage-cut (p .count) (content p) few d e r w }
+  change-cut Staging enc w = record { off = putting-off (p .count) slot (content p) d e w; steps = w; cut = λ r. stage-cut (p .count) (content p) few d e r w }
   change-cut Committing enc w =
       let n : ℕ = p .count in
       let c : List ℕ = commit-block (p .count) (p .numbers) in
       record {
+        off = setting-off c (w .0) e (w .2);
         steps = w;
         cut = λ r. (
             let S = stage-done n (content p) few d (w .0) r (w .1) in
@@ -122,6 +123,7 @@ module _ (p : Plan) (d e : Disk) (few : p .count ≤ 6) (wide : 7 ≤ size d) (r
       let n : ℕ = p .count in
       let c : List ℕ = commit-block (p .count) (p .numbers) in
       record {
+        off = redoing-off n (number p) (content p) (w .1) e (w .4);
         steps = w;
         cut = λ r. (
             let S = stage-done n (content p) few d (w .0) r (w .2) in

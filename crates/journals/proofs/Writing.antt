@@ -9,7 +9,6 @@ use lib.ListN.{length, set}
 use Rattle.std.proofs.shelf.Lists.{length-set}
 use Rattle.drives.specs.Disk.{Disk, size, Gains-only}
 use Rattle.drives.specs.Calls.{Written, Cut-writing}
-use Rattle.journals.specs.Redo.{overlay}
 use Rattle.journals.specs.Steps.{Gains, Wrote, Cut-wrote, Puts, Sets}
 use Rattle.journals.proofs.Overlay.{overlay-length}
 

@@ -2,14 +2,14 @@
 use Prim.Native.Nat.{ℕ, _+_, _<_, _≤_}
 use mathlib.Core.Path.{_≡_}
 use mathlib.Core.List.{List}
-use mathlib.Core.Bool.{true, false}
+use mathlib.Core.Bool.{false}
 use mathlib.Core.Logic.{_⊎_}
 use Rattle.drives.specs.Disk.{Disk, present, size, Settled}
 use Rattle.changes.specs.Commit.{count-of, number-of, Lawful, zeros}
 use Rattle.changes.specs.Plan.{Plan, number, content}
 use Rattle.journals.specs.Redo.{overlay, slots, finished, home}
 use Rattle.journals.specs.Standing.{Stands, Stands-alone, Finishable, Ready, Cut-off, Clear}
-use Rattle.journals.specs.Steps.{Steps-done, Steps-cut, Redoes, Cut-redoing}
+use Rattle.journals.specs.Steps.{Steps-cut, Redoes, Cut-redoing}
 use Rattle.journals.specs.declared.place.Place.{Place}
 use Rattle.journals.specs.declared.place.Place.the-variants.{Staging, Committing, Applying}
 
@@ -34,8 +34,10 @@ After Staging old new h = h ≡ old
 After Committing old new h = (h ≡ old) ⊎ (h ≡ new)
 After Applying old new h = h ≡ new
 
--- a change that lost power at a place: how far the steps had come, and what may stand where the journal was ready
+-- a change that lost power at a place: power is off, how far the steps had come, and what may stand where the journal
+-- was ready
 pub record Cut-change (at : Place) (p : Plan) (d e : Disk) : Type 0 where
+  pub off : e .on ≡ false
   pub steps : Steps-cut at p d e
   pub cut : Ready d → Cut-off (After at (home (d .blocks)) (changed p d)) d e
 
@@ -55,8 +57,9 @@ pub record Finished (d e : Disk) : Type 0 where
   pub same-slots : (i : ℕ) → i < 6 → present e (1 + i) ≡ present d (1 + i)
   pub commit-clear : Clear (present e 0)
 
--- finishing that lost power: nothing may stand but what finishing would have left
+-- finishing that lost power: power is off, and nothing may stand but what finishing would have left
 pub record Cut-finishing (d e : Disk) : Type 0 where
+  pub off : e .on ≡ false
   pub steps : Cut-redoing (count-of (present d 0)) (number-of (present d 0)) (slots (d .blocks)) d e
   pub cut : Settled d → Cut-off (λ h. h ≡ home (finished (d .blocks))) d e
 

@@ -6,7 +6,6 @@ ghost use Prim.Native.Nat.{ℕ, _+_, _<_, _≤_};
 ghost use lib.ListN.{getD};
 ghost use Rattle.std.specs.Results.{Cases};
 ghost use Rattle.drives.specs.Disk.{size};
-ghost use Rattle.changes.specs.Commit.{zeros};
 ghost use Rattle.journals.specs.Redo.{slots as slots-of};
 ghost use Rattle.journals.specs.Steps.{Wrote, Cut-wrote, Puts, Cut-putting, Sets, Cut-setting, Redoes, Cut-redoing, slot};
 use drives::Drive;

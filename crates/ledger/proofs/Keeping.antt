@@ -1,9 +1,8 @@
 -- The ledger's step keeps a valid list valid: what a gains, b loses.
 use Prim.Native.Nat.{ℕ, _<_}
 use mathlib.Core.Path.{_≡_, refl, sym, ap, _∙_}
-use mathlib.Core.List.{List, [], _∷_, map}
-use mathlib.Core.Bool.{Bool, true, false, cond, _&&_}
-use mathlib.Core.Logic.{_≢_}
+use mathlib.Core.List.{List, map}
+use mathlib.Core.Bool.{Bool, true, false, cond}
 use native.Mathlib.Omega.{arith}
 use lib.Dec.{eqb}
 use lib.IntN.{ℤ, pos, negsuc, negℤ, _+ℤ_}
@@ -12,14 +11,13 @@ use mir.Syntax.{w64}
 use mir.Val.{SFits}
 use Rattle.std.specs.declared.option.Option.{Option}
 use Rattle.std.specs.declared.option.Option.the-variants.{Some, None}
-use Rattle.std.specs.declared.result.Result.{Result}
-use Rattle.std.specs.declared.result.Result.the-variants.{Ok, Err}
+use Rattle.std.specs.declared.result.Result.the-variants.{Ok}
 use Rattle.std.proofs.shelf.Lists.{length-set, length-map, map-set, getD-map, getD-set-other}
 use Rattle.std.proofs.shelf.Signed.{ints, toZ-ofZ}
 use Rattle.std.proofs.shelf.Tests.{and-parts, and-from, eq-eqb, eqb-true}
 use Rattle.books.specs.Meaning.{Step-keeps-valid, amount-ok}
 use Rattle.lists.specs.Every.{all}
-use Rattle.ledger.specs.Ledger.{ledger, ledger-valid, ledger-takes, balance, balance-code, balance-stays, within, is-zero, total, code-changed, both}
+use Rattle.ledger.specs.Ledger.{ledger, ledger-takes, balance, balance-code, balance-stays, within, is-zero, total, code-changed, both}
 use Rattle.lists.proofs.Elements.{all-set}
 use Rattle.books.proofs.Accepted.{passed}
 use Rattle.ledger.proofs.Totals.{total-set, within-bounds}

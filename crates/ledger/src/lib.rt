@@ -1,7 +1,5 @@
 // The ledger, the book of money: signed balances in pence that sum to zero. `docs/BOOKS.md` has its rules.
 ghost use mathlib.Core.Path.{_≡_};
-ghost use Prim.Native.Nat.{ℕ};
-ghost use Rattle.std.specs.Options.{mapped};
 ghost use lib.IntN.{pos, negℤ};
 ghost use Rattle.ledger.specs.Ledger.{ledger, ledger-takes, balance, within, code-changed};
 use books::Book;

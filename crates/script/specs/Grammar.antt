@@ -15,7 +15,6 @@ use Rattle.lexer.specs.Pieces.{printable, words, uncommented}
 use Rattle.lexer.specs.Numerals.{typed-number}
 use Rattle.script.specs.declared.line.BookName.{BookName}
 use Rattle.script.specs.declared.line.BookName.the-variants as book-name
-use Rattle.script.specs.declared.line.TypedNote.{TypedNote}
 use Rattle.script.specs.declared.line.Line.{Line}
 use Rattle.script.specs.declared.line.Line.the-variants.{Nothing, Chooses, Types}
 

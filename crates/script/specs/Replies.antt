@@ -16,7 +16,7 @@ use Rattle.script.specs.declared.line.TypedNote.{TypedNote}
 use Rattle.script.specs.declared.line.Command.{Command}
 use Rattle.script.specs.declared.reply.Reply.{Reply}
 use Rattle.script.specs.Grammar.{meaning-of}
-use Rattle.script.specs.Reading.{Reading, script-reading}
+use Rattle.script.specs.Reading.{Reading}
 
 -- the answer to a typed note
 abbrev pub answer-to : TypedNote → Result Numbers Refusal

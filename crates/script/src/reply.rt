@@ -1,6 +1,5 @@
-ghost use mathlib.Core.Path.{_≡_};
 ghost use Rattle.std.specs.declared.option.Option.the-variants.{Some};
-ghost use Rattle.script.specs.Replies.{answer-text, reply-text};
+ghost use Rattle.script.specs.Replies.{reply-text};
 use monitor::Numbers;
 use refusals::Refusal;
 use refusals::RefusalDisplay;

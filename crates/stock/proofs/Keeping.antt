@@ -1,15 +1,15 @@
 -- The stock book's step keeps a valid list valid: item 0 moves as its shelf does.
-use Prim.Native.Nat.{ℕ, zero, suc, _+_, _-_, _*_, _/_, _%_, _^_, _<_, _≤_}
-use mathlib.Core.Path.{_≡_, refl, sym, ap, _∙_}
+use Prim.Native.Nat.{ℕ, zero, suc, _+_, _^_, _<_}
+use mathlib.Core.Path.{_≡_, sym, ap, _∙_}
 use mathlib.Core.List.{List, [], _∷_}
-use mathlib.Core.Bool.{Bool, true, false, cond, _&&_}
+use mathlib.Core.Bool.{true, false, _&&_}
 use native.Mathlib.Omega.{arith}
-use lib.Dec.{eqb, leb, ltb}
-use lib.ListN.{length, getD, set, drop}
+use lib.Dec.{eqb, leb}
+use lib.ListN.{length, getD, set}
 use Rattle.std.specs.shelf.Lists.{sumBy}
 use Rattle.std.proofs.shelf.Lists.{length-set}
 use Rattle.std.proofs.shelf.Sums.{sumBy-set}
-use Rattle.std.proofs.shelf.Tests.{and-parts, and-from, eq-eqb, eqb-true, ltb-true, leb-true, true≢false}
+use Rattle.std.proofs.shelf.Tests.{and-parts, and-from, eq-eqb, eqb-true, ltb-true, true≢false}
 use Rattle.books.specs.Meaning.{Step-keeps-valid, amount-ok}
 use Rattle.lists.specs.Every.{all}
 use Rattle.stock.specs.Stock.{stock, stock-valid, stock-takes, held, most, reels-code, shelf-ok, held-after, most-after, halves-stay, reels-stay, code-after}

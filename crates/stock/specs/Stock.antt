@@ -1,7 +1,7 @@
 -- The stock book: for each shelf the reels held and the most that it takes. Item 0 holds the sums of items 1 to 63.
 use Prim.Native.Nat.{ℕ, _+_, _-_, _*_, _/_, _%_, _^_}
 use mathlib.Core.List.{List, [], _∷_}
-use mathlib.Core.Bool.{Bool, true, cond, _&&_, _||_}
+use mathlib.Core.Bool.{Bool, true, cond, _&&_}
 use lib.Chars.{codes}
 use lib.Dec.{leb, ltb, eqb}
 use lib.ListN.{length, getD, drop}

@@ -1,8 +1,6 @@
 // The stock book: reels held and the most that each shelf takes, with their sums in item 0. `docs/BOOKS.md` has its
 // rules.
 ghost use mathlib.Core.Path.{_≡_};
-ghost use Prim.Native.Nat.{ℕ};
-ghost use Rattle.std.specs.Options.{mapped};
 ghost use Rattle.stock.specs.Stock.{stock, stock-takes, shelf-ok, held, most, reels-code};
 ghost use Rattle.stock.specs.Shelf.{pair-after};
 use books::Book;

@@ -1,8 +1,6 @@
-use Prim.Native.Nat.{_<_, _≤_}
-use mathlib.Core.Path.{_≡_, ap}
+use mathlib.Core.Path.{ap}
 use native.Mathlib.Omega.{arith}
 use lib.ListN.{getD}
-use Rattle.drives.specs.Disk.{size}
 use Rattle.changes.specs.Plan.{plan-of}
 use Rattle.changes.proofs.Encoding.{change-rises, change-wide}
 use Rattle.journals.proofs.Telling.{steps-done, steps-cut}

@@ -1,4 +1,3 @@
-use Prim.Native.Nat.{_<_}
 use native.Mathlib.Omega.{arith}
 use Rattle.journals.proofs.Writing.{puts-size}
 use Rattle.journals.proofs.steps.redo.Needs as need

@@ -1,7 +1,7 @@
-use Prim.Native.Nat.{_*_, _≤_}
+use Prim.Native.Nat.{_*_}
 use mathlib.Core.Path.{_≡_}
 use lib.IntN.{pos, negℤ}
-use lib.ListN.{drop, length}
+use lib.ListN.{drop}
 use lib.Signed.{_≤ℤ_}
 use Rattle.ledger.proofs.Folds.{ledger-left}
 use Rattle.ledger.proofs.LedgerBook.verify.Given as given
