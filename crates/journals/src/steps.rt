@@ -30,7 +30,7 @@ fn write_all<D: Drive>(
 }
 
 /// Writes contents to blocks, and flushes.
-pub fn put_all<D: Drive>(
+pub(crate) fn put_all<D: Drive>(
     drive: &mut D,
     numbers: &[u64; 6],
     contents: &[[u8; 64]; 6],
@@ -46,7 +46,7 @@ pub fn put_all<D: Drive>(
 }
 
 /// Writes the commit block, and flushes: steps 3 and 4, or 7 and 8.
-pub fn set_commit<D: Drive>(drive: &mut D, commit: &[u8; 64]) -> Result<(), DriveFault>
+pub(crate) fn set_commit<D: Drive>(drive: &mut D, commit: &[u8; 64]) -> Result<(), DriveFault>
     requires on { ⌜ disk (now drive) .on ≡ true ⌝ }
     requires some { ⌜ 0 < size (disk (now drive)) ⌝ }
     ensures sets { λ r. ⌜ Cases r (λ _. Sets (now (commit .entry)) (disk (now (drive .entry))) (disk (now (drive .exit)))) (λ _. Cut-setting (now (commit .entry)) (disk (now (drive .entry))) (disk (now (drive .exit)))) ⌝ }
@@ -56,7 +56,7 @@ pub fn set_commit<D: Drive>(drive: &mut D, commit: &[u8; 64]) -> Result<(), Driv
 }
 
 /// Fills the slots, and flushes: steps 1 and 2.
-pub fn stage<D: Drive>(
+pub(crate) fn stage<D: Drive>(
     drive: &mut D,
     contents: &[[u8; 64]; 6],
     count: usize,
@@ -70,7 +70,7 @@ pub fn stage<D: Drive>(
 }
 
 /// Carries contents home and zeroes the commit block: steps 5 to 8.
-pub fn redo<D: Drive>(
+pub(crate) fn redo<D: Drive>(
     drive: &mut D,
     numbers: &[u64; 6],
     contents: &[[u8; 64]; 6],
@@ -87,7 +87,7 @@ pub fn redo<D: Drive>(
 }
 
 /// What the first `count` slots hold.
-pub fn read_slots<D: Drive>(drive: &D, count: usize) -> Result<[[u8; 64]; 6], DriveFault>
+pub(crate) fn read_slots<D: Drive>(drive: &D, count: usize) -> Result<[[u8; 64]; 6], DriveFault>
     requires on { ⌜ disk (now drive) .on ≡ true ⌝ }
     requires wide { ⌜ 7 ≤ size (disk (now drive)) ⌝ }
     requires few { ⌜ count ≤ 6 ⌝ }
