@@ -2,14 +2,24 @@
 use Prim.Native.Nat.{ℕ, _+_, _<_, _≤_}
 use mathlib.Core.Path.{_≡_}
 use mathlib.Core.List.{List}
-use mathlib.Core.Bool.{false}
+use mathlib.Core.Bool.{true, false}
 use mathlib.Core.Logic.{_⊎_}
+use Rattle.std.specs.Results.{Cases}
+use Rattle.std.specs.declared.result.Result.{Result}
+use Rattle.std.specs.declared.result.Result.the-variants.{Ok, Err}
+use Rattle.drives.specs.declared.DriveFault.{DriveFault}
+use Rattle.drives.specs.declared.DriveFault.the-variants as drive-fault
+use Rattle.drives.specs.Calls.{Powers}
 use Rattle.drives.specs.Disk.{Disk, present, size, Settled}
 use Rattle.changes.specs.Commit.{count-of, number-of, Lawful, zeros}
-use Rattle.changes.specs.Plan.{Plan, number, content}
+use Rattle.changes.specs.Plan.{Plan, number, content, last}
 use Rattle.journals.specs.Redo.{overlay, slots, finished, home}
 use Rattle.journals.specs.Standing.{Stands, Stands-alone, Finishable, Ready, Cut-off, Clear}
 use Rattle.journals.specs.Steps.{Steps-cut, Redoes, Cut-redoing}
+use Rattle.journals.specs.declared.journal.ChangeFault.{ChangeFault}
+use Rattle.journals.specs.declared.journal.ChangeFault.the-variants as fault
+use Rattle.journals.specs.declared.journal.FinishFault.{FinishFault}
+use Rattle.journals.specs.declared.journal.FinishFault.the-variants as finish-fault
 use Rattle.journals.specs.declared.place.Place.{Place}
 use Rattle.journals.specs.declared.place.Place.the-variants.{Staging, Committing, Applying}
 
@@ -74,3 +84,33 @@ pub record Adds-nothing (d e : Disk) : Type 0 where
   pub off : e .on ≡ false
   pub finishable : Finishable d → Finishable e
   pub stands : (h : List (List ℕ)) → Stands e h → Stands d h
+
+-- reading a block
+pub record Reads-block (d : Disk) (b : ℕ) (r : Result (List ℕ) DriveFault) : Type 0 where
+  pub refused-off : d .on ≡ false → r ≡ Err drive-fault.Off
+  pub refused-beyond : d .on ≡ true → size d ≤ b → r ≡ Err drive-fault.NoSuchBlock
+  pub met : d .on ≡ true → b < size d → r ≡ Ok (present d b)
+
+-- a power call: what the drive's did, and what that leaves
+pub record Powers-on (d : Disk) (r : Result (Unit {0}) DriveFault) (e : Disk) : Type 0 where
+  pub met : Powers d r e
+  pub stands : Cases r (λ _. Stood d e) (λ _. Adds-nothing d e)
+
+-- a change: refused and nothing moved, made, or cut at a place
+pub record Changes (d : Disk) (p : Plan) (r : Result (Unit {0}) ChangeFault) (e : Disk) : Type 0 where
+  pub refused-off : d .on ≡ false → (r ≡ Err fault.Off) × (e ≡ d)
+  pub refused-beyond : d .on ≡ true → size d ≤ last p → (r ≡ Err fault.Beyond) × (e ≡ d)
+  pub met :
+      d .on ≡ true → last p < size d →
+      Cases r (λ _. Made p d e) (λ f. (at : Place) × (f ≡ fault.Cut at) × Cut-change at p d e)
+
+-- finishing: refused and nothing moved, nothing to do, done, or cut
+pub record Finishes (d : Disk) (r : Result (Unit {0}) FinishFault) (e : Disk) : Type 0 where
+  pub refused-off : d .on ≡ false → (r ≡ Err finish-fault.Off) × (e ≡ d)
+  pub refused-unlawful :
+      d .on ≡ true → (Lawful (size d) (present d 0) → ⊥) → (r ≡ Err finish-fault.Unlawful) × (e ≡ d)
+  pub nothing :
+      d .on ≡ true → Lawful (size d) (present d 0) → count-of (present d 0) ≡ 0 → Cases r (λ _. e ≡ d) (λ _. ⊥)
+  pub met :
+      d .on ≡ true → 7 ≤ size d → Lawful (size d) (present d 0) →
+      Cases r (λ _. Finished d e) (λ f. (f ≡ finish-fault.PowerLost) × Cut-finishing d e)

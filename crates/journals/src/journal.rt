@@ -1,18 +1,13 @@
 ghost use mathlib.Core.Path.{_≡_};
-ghost use mathlib.Core.Bool.{true, false};
+ghost use mathlib.Core.Bool.{true};
 ghost use Prim.Native.Nat.{_<_, _≤_};
 ghost use Rattle.std.specs.Results.{Cases};
-ghost use Rattle.std.specs.declared.result.Result.the-variants.{Ok, Err};
 ghost use Rattle.drives.specs.Disk.{present, size as size-of};
-ghost use Rattle.drives.specs.Calls.{Powered, Cut};
-ghost use Rattle.drives.specs.declared.DriveFault.the-variants.{Off, NoSuchBlock, PowerLost};
 ghost use Rattle.changes.specs.Commit.{Lawful, count-of};
 ghost use Rattle.changes.specs.Plan.{plan-of, last};
 ghost use Rattle.journals.specs.Steps.{Steps-done, Steps-cut};
-ghost use Rattle.journals.specs.Outcomes.{Made, Cut-change, Finished, Cut-finishing, Stood, Adds-nothing};
-ghost use Rattle.journals.specs.declared.journal.ChangeFault.the-variants as fault;
+ghost use Rattle.journals.specs.Outcomes.{Reads-block, Powers-on, Changes, Finishes, Finished, Cut-finishing};
 ghost use Rattle.journals.specs.declared.journal.FinishFault.the-variants as finish-fault;
-ghost use Rattle.journals.specs.declared.place.Place.{Place as Where};
 use crate::place::Place;
 use crate::steps;
 use changes::Change;
@@ -92,9 +87,7 @@ impl<D: Drive> Journal<D> {
 
     /// What a block holds.
     pub fn read(&self, block: u64) -> Result<[u8; 64], DriveFault>
-        ensures refused_off { λ r. ⌜ (D·Drive .disk (now (self .entry) .drive) .on ≡ false → r ≡ Err Off) ⌝ }
-        ensures refused_beyond { λ r. ⌜ (D·Drive .disk (now (self .entry) .drive) .on ≡ true → size-of (D·Drive .disk (now (self .entry) .drive)) ≤ block → r ≡ Err NoSuchBlock) ⌝ }
-        ensures met { λ r. ⌜ (D·Drive .disk (now (self .entry) .drive) .on ≡ true → block < size-of (D·Drive .disk (now (self .entry) .drive)) → r ≡ Ok (present (D·Drive .disk (now (self .entry) .drive)) block)) ⌝ }
+        ensures reads { λ r. ⌜ Reads-block (D·Drive .disk (now (self .entry) .drive)) block r ⌝ }
     {
         let mut buffer = [0; 64];
         self.drive.read(block, &mut buffer)?;
@@ -103,17 +96,14 @@ impl<D: Drive> Journal<D> {
 
     /// Turns power off and on again.
     pub fn power(&mut self) -> Result<(), DriveFault>
-        ensures met { λ r. ⌜ Cases r (λ _. Powered (D·Drive .disk (now (self .entry) .drive)) (D·Drive .disk (now (self .exit) .drive))) (λ e. (e ≡ PowerLost) × Cut (D·Drive .disk (now (self .entry) .drive)) (D·Drive .disk (now (self .exit) .drive))) ⌝ }
-        ensures stands { λ r. ⌜ Cases r (λ _. Stood (D·Drive .disk (now (self .entry) .drive)) (D·Drive .disk (now (self .exit) .drive))) (λ _. Adds-nothing (D·Drive .disk (now (self .entry) .drive)) (D·Drive .disk (now (self .exit) .drive))) ⌝ }
+        ensures powers { λ r. ⌜ Powers-on (D·Drive .disk (now (self .entry) .drive)) r (D·Drive .disk (now (self .exit) .drive)) ⌝ }
     {
         self.drive.power()
     }
 
     /// Makes a change, whole or not at all.
     pub fn change(&mut self, change: &Change) -> Result<(), ChangeFault>
-        ensures refused_off { λ r. ⌜ (D·Drive .disk (now (self .entry) .drive) .on ≡ false → (r ≡ Err fault.Off) × (D·Drive .disk (now (self .exit) .drive) ≡ D·Drive .disk (now (self .entry) .drive))) ⌝ }
-        ensures refused_beyond { λ r. ⌜ (D·Drive .disk (now (self .entry) .drive) .on ≡ true → size-of (D·Drive .disk (now (self .entry) .drive)) ≤ last (plan-of (now (change .entry))) → (r ≡ Err fault.Beyond) × (D·Drive .disk (now (self .exit) .drive) ≡ D·Drive .disk (now (self .entry) .drive))) ⌝ }
-        ensures met { λ r. ⌜ (D·Drive .disk (now (self .entry) .drive) .on ≡ true → last (plan-of (now (change .entry))) < size-of (D·Drive .disk (now (self .entry) .drive)) → Cases r (λ _. Made (plan-of (now (change .entry))) (D·Drive .disk (now (self .entry) .drive)) (D·Drive .disk (now (self .exit) .drive))) (λ e. (p : Where) × (e ≡ fault.Cut p) × Cut-change p (plan-of (now (change .entry))) (D·Drive .disk (now (self .entry) .drive)) (D·Drive .disk (now (self .exit) .drive)))) ⌝ }
+        ensures changes { λ r. ⌜ Changes (D·Drive .disk (now (self .entry) .drive)) (plan-of (now (change .entry))) r (D·Drive .disk (now (self .exit) .drive)) ⌝ }
     {
         if !self.drive.is_on() {
             return Err(ChangeFault::Off);
@@ -129,10 +119,7 @@ impl<D: Drive> Journal<D> {
 
     /// Finishes what the commit block names, or does nothing where it names nothing.
     pub fn finish(&mut self) -> Result<(), FinishFault>
-        ensures refused_off { λ r. ⌜ (D·Drive .disk (now (self .entry) .drive) .on ≡ false → (r ≡ Err finish-fault.Off) × (D·Drive .disk (now (self .exit) .drive) ≡ D·Drive .disk (now (self .entry) .drive))) ⌝ }
-        ensures refused_unlawful { λ r. ⌜ (D·Drive .disk (now (self .entry) .drive) .on ≡ true → (Lawful (size-of (D·Drive .disk (now (self .entry) .drive))) (present (D·Drive .disk (now (self .entry) .drive)) 0) → ⊥) → (r ≡ Err finish-fault.Unlawful) × (D·Drive .disk (now (self .exit) .drive) ≡ D·Drive .disk (now (self .entry) .drive))) ⌝ }
-        ensures nothing { λ r. ⌜ (D·Drive .disk (now (self .entry) .drive) .on ≡ true → Lawful (size-of (D·Drive .disk (now (self .entry) .drive))) (present (D·Drive .disk (now (self .entry) .drive)) 0) → count-of (present (D·Drive .disk (now (self .entry) .drive)) 0) ≡ 0 → Cases r (λ _. D·Drive .disk (now (self .exit) .drive) ≡ D·Drive .disk (now (self .entry) .drive)) (λ _. ⊥)) ⌝ }
-        ensures met { λ r. ⌜ (D·Drive .disk (now (self .entry) .drive) .on ≡ true → 7 ≤ size-of (D·Drive .disk (now (self .entry) .drive)) → Lawful (size-of (D·Drive .disk (now (self .entry) .drive))) (present (D·Drive .disk (now (self .entry) .drive)) 0) → Cases r (λ _. Finished (D·Drive .disk (now (self .entry) .drive)) (D·Drive .disk (now (self .exit) .drive))) (λ e. (e ≡ finish-fault.PowerLost) × Cut-finishing (D·Drive .disk (now (self .entry) .drive)) (D·Drive .disk (now (self .exit) .drive)))) ⌝ }
+        ensures finishes { λ r. ⌜ Finishes (D·Drive .disk (now (self .entry) .drive)) r (D·Drive .disk (now (self .exit) .drive)) ⌝ }
     {
         if !self.drive.is_on() {
             return Err(FinishFault::Off);

@@ -15,5 +15,5 @@ loop-i-again g c = (
   below-more _ _
       (λ k h. let ne : k ≢ c .loop-i .i = omega arith in rw getD-set-other (c .loop-i .inv .1 k h))
       (let lt : c .loop-i .i < length (c .loop-i .contents) = omega (arith, c .loop-i .inv .0) in
-      rw getD-set-same (c .in-Continue-read .ensures tt .met (c .pre .on) (omega (arith, c .pre .wide, c .pre .few, c .loop-i-test .taken)) refl)),
+      rw getD-set-same (c .in-Continue-read .ensures tt .reads .met (c .pre .on) (omega (arith, c .pre .wide, c .pre .few, c .loop-i-test .taken)) refl)),
 )

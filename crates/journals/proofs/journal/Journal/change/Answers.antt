@@ -12,9 +12,11 @@ pub returns-in-Ok : need.returns-in-Ok
 returns-in-Ok g c =
     let k = c .args .change .now in
     record {
-      refused-off = λ e. absurd (both-ways _ e (sym (c .is-on .ensures .value) ∙ c .if-not-is-on .left));
-      refused-beyond = λ e l. absurd (omega (arith, c .if-last-size .left, c .last .ensures .value, c .size .ensures .value));
-      met = λ e l. change-made (plan-of k) _ _ (k .few) (change-wide k _ l) (change-rises k _ l) (c .in-Ok .ensures tt .steps);
+      changes = record {
+        refused-off = λ e. absurd (both-ways _ e (sym (c .is-on .ensures .value) ∙ c .if-not-is-on .left));
+        refused-beyond = λ e l. absurd (omega (arith, c .if-last-size .left, c .last .ensures .value, c .size .ensures .value));
+        met = λ e l. change-made (plan-of k) _ _ (k .few) (change-wide k _ l) (change-rises k _ l) (c .in-Ok .ensures tt .steps);
+      };
     }
 
 pub returns-in-Err : need.returns-in-Err
@@ -23,7 +25,9 @@ returns-in-Err g c =
     let six = six-of-change k in
     let enc : Encodes (k .count) (number (plan-of k)) (commit-block (k .count) (k .numbers)) = record { count = refl; numbers = number-back (k .count) (k .numbers) six; lawful = λ size r. lawful-from-rises size (k .count) (k .numbers) six r } in
     record {
-      refused-off = λ e. absurd (both-ways _ e (sym (c .is-on .ensures .value) ∙ c .if-not-is-on .left));
-      refused-beyond = λ e l. absurd (omega (arith, c .if-last-size .left, c .last .ensures .value, c .size .ensures .value));
-      met = λ e l. (c .in-Err .place, refl, change-cut (plan-of k) _ _ (k .few) (change-wide k _ l) (change-rises k _ l) (c .in-Err .place) enc (c .in-Err .ensures tt .steps));
+      changes = record {
+        refused-off = λ e. absurd (both-ways _ e (sym (c .is-on .ensures .value) ∙ c .if-not-is-on .left));
+        refused-beyond = λ e l. absurd (omega (arith, c .if-last-size .left, c .last .ensures .value, c .size .ensures .value));
+        met = λ e l. (c .in-Err .place, refl, change-cut (plan-of k) _ _ (k .few) (change-wide k _ l) (change-rises k _ l) (c .in-Err .place) enc (c .in-Err .ensures tt .steps));
+      };
     }

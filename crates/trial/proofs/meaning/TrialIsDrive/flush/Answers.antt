@@ -10,6 +10,8 @@ returns c =
     let t = state-of (c .flush-blocks .last .self) in
     let told = c .flush-blocks .ensures in
     record {
-      refused-off = λ off. flush-refused s _ t (told .answer) (told .state) off;
-      met = λ on. flush-met s _ t (told .answer) (told .state) on;
+      flushes = record {
+        refused-off = λ off. flush-refused s _ t (told .answer) (told .state) off;
+        met = λ on. flush-met s _ t (told .answer) (told .state) on;
+      };
     }

@@ -14,8 +14,10 @@ returns c =
     let told = c .read-block .ensures in
     let refused = read-refused s b old (fault s b (length old)) _ _ (told .answer) (told .buffer) in
     record {
-      refused-off = λ off. refused Off (fault-off s b (length old) off);
-      refused-beyond = λ on l. refused NoSuchBlock (fault-beyond s b (length old) on l);
-      refused-buffer = λ on l n. refused BadBuffer (fault-buffer s b (length old) on l n);
-      met = λ on l n. read-met s b old _ _ _ (told .answer) (told .buffer) (fault-none s b (length old) on l n) l;
+      reads = record {
+        refused-off = λ off. refused Off (fault-off s b (length old) off);
+        refused-beyond = λ on l. refused NoSuchBlock (fault-beyond s b (length old) on l);
+        refused-buffer = λ on l n. refused BadBuffer (fault-buffer s b (length old) on l n);
+        met = λ on l n. read-met s b old _ _ _ (told .answer) (told .buffer) (fault-none s b (length old) on l n) l;
+      };
     }

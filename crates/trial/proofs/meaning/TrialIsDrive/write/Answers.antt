@@ -15,8 +15,10 @@ returns c =
     let told = c .write-block .ensures in
     let refused = write-refused s b x (c .write-block .result) t (told .answer) (told .state) in
     record {
-      refused-off = λ off. refused Off (fault-off s b (length x) off);
-      refused-beyond = λ on l. refused NoSuchBlock (fault-beyond s b (length x) on l);
-      refused-buffer = λ on l n. refused BadBuffer (fault-buffer s b (length x) on l n);
-      met = λ on l n. write-met s b x l n _ t (told .answer) (told .state) on;
+      writes = record {
+        refused-off = λ off. refused Off (fault-off s b (length x) off);
+        refused-beyond = λ on l. refused NoSuchBlock (fault-beyond s b (length x) on l);
+        refused-buffer = λ on l n. refused BadBuffer (fault-buffer s b (length x) on l n);
+        met = λ on l n. write-met s b x l n _ t (told .answer) (told .state) on;
+      };
     }
