@@ -1,6 +1,7 @@
 ghost use mathlib.Core.Path.{_≡_};
 ghost use Rattle.std.specs.Options.{Cases as BySome};
 ghost use Rattle.records.specs.declared.record.Record.{Record as Entry};
+ghost use Rattle.records.specs.declared.record.Record.the-variants.{Posting, Certification};
 ghost use Prim.Native.Nat.{_≤_};
 ghost use Rattle.records.specs.Bytes.{eight-from};
 ghost use Rattle.records.specs.Form.{form, encoded, parsed, Fits, Read-back};
@@ -50,6 +51,50 @@ fn lay_out(s: Small, amount: u64, mask: u64, number: u32) -> [u8; 64]
     block
 }
 
+/// The block of a posting.
+fn posting_block(
+    users: (u8, u8),
+    procedure: u8,
+    items: (u8, u8),
+    amount: u64,
+    number: u32,
+) -> [u8; 64]
+    ensures value { λ r. ⌜ r ≡ encoded number (Posting (users .0) (users .1) procedure (items .0) (items .1) amount) ⌝ }
+{
+    let small = Small {
+        kind: 1,
+        first: users.0,
+        second: users.1,
+        procedure,
+        a: items.0,
+        b: items.1,
+        ..BLANK
+    };
+    lay_out(small, amount, 0, number)
+}
+
+/// The block of a certification.
+fn certification_block(
+    user: u8,
+    procedure: u8,
+    role: u8,
+    row: u8,
+    mask: u64,
+    number: u32,
+) -> [u8; 64]
+    ensures value { λ r. ⌜ r ≡ encoded number (Certification user procedure role row mask) ⌝ }
+{
+    let small = Small {
+        kind: 2,
+        first: user,
+        procedure,
+        role,
+        row,
+        ..BLANK
+    };
+    lay_out(small, 0, mask, number)
+}
+
 /// The block of a record with its number.
 pub fn encode(entry: Record, number: u32) -> [u8; 64]
     ensures value { λ r. ⌜ r ≡ encoded number entry ⌝ }
@@ -62,43 +107,14 @@ pub fn encode(entry: Record, number: u32) -> [u8; 64]
             a,
             b,
             amount,
-        } => {
-            lay_out(
-                Small {
-                    kind: 1,
-                    first: enterer,
-                    second: countersigner,
-                    procedure,
-                    a,
-                    b,
-                    ..BLANK
-                },
-                amount,
-                0,
-                number,
-            )
-        }
+        } => posting_block((enterer, countersigner), procedure, (a, b), amount, number),
         Record::Certification {
             user,
             procedure,
             role,
             row,
             mask,
-        } => {
-            lay_out(
-                Small {
-                    kind: 2,
-                    first: user,
-                    procedure,
-                    role,
-                    row,
-                    ..BLANK
-                },
-                0,
-                mask,
-                number,
-            )
-        }
+        } => certification_block(user, procedure, role, row, mask, number),
         Record::Strike { row } => lay_out(
             Small {
                 kind: 3,
