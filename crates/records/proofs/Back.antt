@@ -8,7 +8,7 @@ use Rattle.records.specs.declared.record.Record.{Record}
 use Rattle.records.specs.declared.record.Record.the-variants.{Posting, Certification, Strike}
 
 -- a number of 64 bits is the sum of its bytes
-eight-sum :
+pub eight-sum :
     (n : ℕ) → n < 2 ^ 64
     → n % 256 + n / 256 % 256 * 256 + n / 65536 % 256 * 65536 + n / 16777216 % 256 * 16777216 + n / 4294967296 % 256 * 4294967296 + n / 1099511627776 % 256 * 1099511627776 + n / 281474976710656 % 256 * 281474976710656 + n / 72057594037927936 % 256 * 72057594037927936 ≡ n
 eight-sum n h = omega arith

@@ -1,0 +1,2 @@
+mod Apart
+mod Heading

@@ -1,0 +1,3 @@
+pub mod Head
+pub mod Codes
+pub mod Rows
