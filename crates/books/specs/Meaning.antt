@@ -14,24 +14,24 @@ pub record Meaning : Type 0 where
   pub step : ℕ → ℕ → ℕ → ℕ → ℕ → ℕ → Result (ℕ × ℕ) StepPlace
 
 -- an amount that one note may carry
-abbrev pub amount-ok : ℕ → ℕ → Bool
-amount-ok ceiling n = nat_le 1 n && nat_le n ceiling
+abbrev pub amount_ok : ℕ → ℕ → Bool
+amount_ok ceiling n = nat_le 1 n && nat_le n ceiling
 
 -- the book has a word for the procedure
-abbrev pub has-procedure : Meaning → ℕ → Bool
-has-procedure m p = nat_le 1 p && nat_le p (length m.words)
+abbrev pub has_procedure : Meaning → ℕ → Bool
+has_procedure m p = nat_le 1 p && nat_le p (length m.words)
 
 -- a kind number from 1 to 255
-abbrev pub Kind-in-range : Meaning → Type 0
-Kind-in-range m = (1 ≤ m.kind) × (m.kind ≤ 255)
+abbrev pub KindInRange : Meaning → Type 0
+KindInRange m = (1 ≤ m.kind) × (m.kind ≤ 255)
 
 -- a ceiling of at most 1,000,000,000
-abbrev pub Ceiling-in-range : Meaning → Type 0
-Ceiling-in-range m = m.ceiling ≤ 1000000000
+abbrev pub CeilingInRange : Meaning → Type 0
+CeilingInRange m = m.ceiling ≤ 1000000000
 
 -- a valid list stays valid when the codes of two different items are replaced by what the step gives
-abbrev pub Step-keeps-valid : Meaning → Type 0
-Step-keeps-valid m =
+abbrev pub StepKeepsValid : Meaning → Type 0
+StepKeepsValid m =
     (codes : List ℕ) (p a b n x y : ℕ) →
     a < 64 → b < 64 → (a ≢ b) →
     m.valid codes ≡ true →
@@ -40,17 +40,17 @@ Step-keeps-valid m =
 
 -- the step's tests in their order: place 1 is a procedure without a word or items that it does not take, whatever the
 -- codes and the amount; place 2 an amount that is not from 1 to the ceiling
-pub record Step-tests (m : Meaning) : Type 0 where
-  pub needs-word : (p a b x y n : ℕ) → has-procedure m p ≡ false → m.step p a b x y n ≡ Err Items
-  pub items-alone : (p a b x y n x' y' n' : ℕ) → m.step p a b x y n ≡ Err Items → m.step p a b x' y' n' ≡ Err Items
-  pub needs-amount :
-      (p a b x y n : ℕ) → amount-ok m.ceiling n ≡ false
+pub record StepTests (m : Meaning) : Type 0 where
+  pub needs_word : (p a b x y n : ℕ) → has_procedure m p ≡ false → m.step p a b x y n ≡ Err Items
+  pub items_alone : (p a b x y n x' y' n' : ℕ) → m.step p a b x y n ≡ Err Items → m.step p a b x' y' n' ≡ Err Items
+  pub needs_amount :
+      (p a b x y n : ℕ) → amount_ok m.ceiling n ≡ false
       → (m.step p a b x y n ≡ Err Items) ⊎ (m.step p a b x y n ≡ Err Amount)
-  pub amount-alone : (p a b x y n : ℕ) → m.step p a b x y n ≡ Err Amount → amount-ok m.ceiling n ≡ false
+  pub amount_alone : (p a b x y n : ℕ) → m.step p a b x y n ≡ Err Amount → amount_ok m.ceiling n ≡ false
 
 -- from codes of 64 bits the step gives codes of 64 bits
-abbrev pub Step-gives-codes : Meaning → Type 0
-Step-gives-codes m =
+abbrev pub StepGivesCodes : Meaning → Type 0
+StepGivesCodes m =
     (p a b x y n x' y' : ℕ) →
     x < 2 ^ 64 → y < 2 ^ 64 →
     m.step p a b x y n ≡ Ok (x', y') →

@@ -21,20 +21,20 @@ is_word None w = false
 is_word (Some v) w = bytes_eq v w
 
 -- the procedure that a word names, counted on from p
-abbrev pub named-from : ℕ → List (List ℕ) → List ℕ → Option ℕ
-named-from p [] w = None
-named-from p (v ∷ vs) w = cond (bytes_eq v w) (Some p) (named-from (suc p) vs w)
+abbrev pub named_from : ℕ → List (List ℕ) → List ℕ → Option ℕ
+named_from p [] w = None
+named_from p (v ∷ vs) w = cond (bytes_eq v w) (Some p) (named_from (suc p) vs w)
 
 -- the procedure that a word names
 abbrev pub named : List (List ℕ) → List ℕ → Option ℕ
-named ws w = named-from 1 ws w
+named ws w = named_from 1 ws w
 
 abbrev pub letter : ℕ → Bool
 letter b = (nat_le 65 b && nat_le b 90) || (nat_le 97 b && nat_le b 122)
 
 -- a word of 1 to 8 letters
-abbrev pub proper-word : List ℕ → Bool
-proper-word w = (nat_le 1 (length w) && nat_le (length w) 8) && all letter w
+abbrev pub proper_word : List ℕ → Bool
+proper_word w = (nat_le 1 (length w) && nat_le (length w) 8) && all letter w
 
 -- no word stands twice
 abbrev pub apart : List (List ℕ) → Bool
@@ -42,9 +42,9 @@ apart [] = true
 apart (w ∷ ws) = all (λ v. not (bytes_eq w v)) ws && apart ws
 
 -- up to 7 words
-abbrev pub Few-words : Meaning → Type 0
-Few-words m = length m.words ≤ 7
+abbrev pub FewWords : Meaning → Type 0
+FewWords m = length m.words ≤ 7
 
 -- of 1 to 8 letters each, no two the same
-abbrev pub Proper-words : Meaning → Type 0
-Proper-words m = (all proper-word m.words && apart m.words) ≡ true
+abbrev pub ProperWords : Meaning → Type 0
+ProperWords m = (all proper_word m.words && apart m.words) ≡ true

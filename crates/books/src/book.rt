@@ -1,7 +1,7 @@
 ghost use Rattle.std.specs.Prelude.{◌≡◌, ℕ, ◌^◌, ◌<◌, length};
 ghost use Rattle.std.specs.Option.{option_map};
-ghost use Rattle.books.specs.Meaning.{Meaning, Kind-in-range, Ceiling-in-range, Step-tests, Step-gives-codes, Step-keeps-valid};
-ghost use Rattle.books.specs.Words.{Few-words, Proper-words, word_of};
+ghost use Rattle.books.specs.Meaning.{Meaning, KindInRange, CeilingInRange, StepTests, StepGivesCodes, StepKeepsValid};
+ghost use Rattle.books.specs.Words.{FewWords, ProperWords, word_of};
 
 use refusals::StepPlace;
 
@@ -58,19 +58,19 @@ pub trait Book {
     ) -> Result<(u64, u64), StepPlace>
         ensures value { result ≡ meaning.step procedure a b codes.0 codes.1 amount };
 
-    ghost kind_in_range: { Kind-in-range meaning };
+    ghost kind_in_range: { KindInRange meaning };
 
-    ghost ceiling_in_range: { Ceiling-in-range meaning };
+    ghost ceiling_in_range: { CeilingInRange meaning };
 
-    ghost few_words: { Few-words meaning };
+    ghost few_words: { FewWords meaning };
 
-    ghost proper_words: { Proper-words meaning };
+    ghost proper_words: { ProperWords meaning };
 
-    ghost step_tests: { Step-tests meaning };
+    ghost step_tests: { StepTests meaning };
 
-    ghost step_gives_codes: { Step-gives-codes meaning };
+    ghost step_gives_codes: { StepGivesCodes meaning };
 
-    ghost step_keeps_valid: { Step-keeps-valid meaning };
+    ghost step_keeps_valid: { StepKeepsValid meaning };
 
     ghost one_code_each: { (c d : ℕ) → c < 2 ^ 64 → d < 2 ^ 64 → item c ≡ item d → c ≡ d };
 }

@@ -4,16 +4,15 @@ use Rattle.refusals.specs.declared.reasons.Reason.{Reason}
 use Rattle.refusals.specs.declared.reasons.Reason.TheVariants.{EntererNotEntitled, SamePerson, CountersignerNotEntitled, AuditFull, StepRefused, InvalidAfter}
 use Rattle.refusals.specs.declared.refusal.Refusal.{Refusal}
 use Rattle.refusals.specs.declared.step_place.StepPlace.{StepPlace}
-use Rattle.refusals.specs.Places.{step-place}
+use Rattle.refusals.specs.Places.{step_place_number}
 use Rattle.refusals.specs.Refused.{refused, and_then}
 use Rattle.books.specs.Meaning.{Meaning}
 use Rattle.notes.specs.Notes.{noted}
-use Rattle.rights.specs.Covers.{Asked, uncovered}
-use Rattle.rights.specs.declared.row.Role.{Role}
+use Rattle.rights.specs.Covers.{uncovered}
 use Rattle.rights.specs.declared.row.Role.TheVariants.{Enter, Countersign}
 use Rattle.records.specs.declared.record.Record.{Record}
 use Rattle.records.specs.declared.record.Record.TheVariants.{Posting, Certification, Strike}
-use Rattle.carrying.specs.Standing.{Standing, with-codes, step-on}
+use Rattle.carrying.specs.Standing.{Standing, with_codes, step_on}
 use Rattle.carrying.specs.Rows.{certified, struck}
 
 -- refused at the item that no row covers, if there is one
@@ -22,13 +21,13 @@ unless why None r = r
 unless why (Some item) r = refused why item
 
 -- the list after the step is valid (15)
-abbrev pub if-valid : Meaning → Standing → Result Standing Refusal
-if-valid m t = cond (m.valid t.items) (Ok t) (refused InvalidAfter 0)
+abbrev pub if_valid : Meaning → Standing → Result Standing Refusal
+if_valid m t = cond (m.valid t.items) (Ok t) (refused InvalidAfter 0)
 
 -- the step is taken (14)
-abbrev pub after-step : Meaning → Standing → ℕ → ℕ → Result (ℕ × ℕ) StepPlace → Result Standing Refusal
-after-step m s a b (Ok xy) = if-valid m (with-codes s a b xy.0 xy.1)
-after-step m s a b (Err e) = refused StepRefused (step-place e)
+abbrev pub after_step : Meaning → Standing → ℕ → ℕ → Result (ℕ × ℕ) StepPlace → Result Standing Refusal
+after_step m s a b (Ok xy) = if_valid m (with_codes s a b xy.0 xy.1)
+after_step m s a b (Err e) = refused StepRefused (step_place_number e)
 
 -- a posting of a note: two different users (11), the enterer entitled in role 1 (9), the countersigner in role 2 (12), room
 -- (13), the step (14), a valid list after it (15)
@@ -39,7 +38,7 @@ posted m room s enterer countersigner p a b n =
     (unless EntererNotEntitled (uncovered s.rows (record { user = enterer; procedure = p; role = Enter }) a b)
     (unless CountersignerNotEntitled (uncovered s.rows (record { user = countersigner; procedure = p; role = Countersign }) a b)
     (cond (nat_lt s.count room)
-    (after-step m s a b (step-on m s p a b n))
+    (after_step m s a b (step_on m s p a b n))
     (refused AuditFull s.count))))
 
 -- one record, where there is room for so many; a posting after the four tests of its note (1 to 4)
@@ -51,6 +50,6 @@ carried m room s (Certification user p role k mask) =
 carried m room s (Strike k) = struck room s k
 
 -- a list of records in order, up to the first that is refused
-abbrev pub carried-all : Meaning → ℕ → Standing → List Record → Result Standing Refusal
-carried-all m room s [] = Ok s
-carried-all m room s (x ∷ xs) = and_then (carried m room s x) (λ t. carried-all m room t xs)
+abbrev pub carried_all : Meaning → ℕ → Standing → List Record → Result Standing Refusal
+carried_all m room s [] = Ok s
+carried_all m room s (x ∷ xs) = and_then (carried m room s x) (λ t. carried_all m room t xs)

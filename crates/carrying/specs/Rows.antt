@@ -1,45 +1,45 @@
 -- When a row may be filled or freed.
-use Rattle.std.specs.Prelude.{ℕ, Bool, cond, ◌&&◌, ◌||◌, Ok, Result, ◌==◌, nat_le, nat_lt, slice_index_or}
+use Rattle.std.specs.Prelude.{ℕ, cond, ◌&&◌, ◌||◌, Ok, Result, ◌==◌, nat_le, nat_lt, slice_index_or}
 use Rattle.refusals.specs.declared.reasons.Reason.TheVariants.{AuditFull, BadRow, RowTaken}
 use Rattle.refusals.specs.declared.refusal.Refusal.{Refusal}
 use Rattle.refusals.specs.declared.row_place.RowPlace.TheVariants as at
-use Rattle.refusals.specs.Places.{row-place}
+use Rattle.refusals.specs.Places.{row_place_number}
 use Rattle.refusals.specs.Refused.{refused, and_then}
-use Rattle.books.specs.Meaning.{Meaning, has-procedure}
+use Rattle.books.specs.Meaning.{Meaning, has_procedure}
 use Rattle.rights.specs.Covers.{free, is_free}
 use Rattle.rights.specs.declared.row.Row.{Row}
 use Rattle.carrying.specs.Standing.{Standing, with_row}
 
 -- the row that a certification asks for, or what is at fault with it (23): the row above 31 (place 1), the user not from
 -- 1 to 15 (2), a procedure without a word (3), a role that is neither 1 nor 2 (4), a mask of 0 (5)
-abbrev pub checked-row : Meaning → ℕ → Row → Result Row Refusal
-checked-row m k w =
+abbrev pub checked_row : Meaning → ℕ → Row → Result Row Refusal
+checked_row m k w =
     cond (nat_le k 31)
     (cond (nat_le 1 w.user && nat_le w.user 15)
-    (cond (has-procedure m w.procedure)
+    (cond (has_procedure m w.procedure)
     (cond (w.role == 1 || w.role == 2)
     (cond (w.mask == 0)
-    (refused BadRow (row-place at.Mask))
+    (refused BadRow (row_place_number at.Mask))
     (Ok w))
-    (refused BadRow (row-place at.Role)))
-    (refused BadRow (row-place at.Procedure)))
-    (refused BadRow (row-place at.User)))
-    (refused BadRow (row-place at.Row))
+    (refused BadRow (row_place_number at.Role)))
+    (refused BadRow (row_place_number at.Procedure)))
+    (refused BadRow (row_place_number at.User)))
+    (refused BadRow (row_place_number at.Row))
 
 -- there is room for one record more (13)
-abbrev pub if-room : ℕ → Standing → Standing → Result Standing Refusal
-if-room room s t = cond (nat_lt s.count room) (Ok t) (refused AuditFull s.count)
+abbrev pub if_room : ℕ → Standing → Standing → Result Standing Refusal
+if_room room s t = cond (nat_lt s.count room) (Ok t) (refused AuditFull s.count)
 
 -- the row is free (24), and there is room
 abbrev pub filled : ℕ → Standing → ℕ → Row → Result Standing Refusal
 filled room s k w =
     cond (is_free (slice_index_or s.rows k free))
-    (if-room room s (with_row s k w))
+    (if_room room s (with_row s k w))
     (refused RowTaken k)
 
 -- certification: the row's tests, then that it is free, then room
 abbrev pub certified : Meaning → ℕ → Standing → ℕ → Row → Result Standing Refusal
-certified m room s k w = and_then (checked-row m k w) (filled room s k)
+certified m room s k w = and_then (checked_row m k w) (filled room s k)
 
 -- strike: there is such a row (23), it is taken (24), and there is room (13)
 abbrev pub struck : ℕ → Standing → ℕ → Result Standing Refusal
@@ -47,5 +47,5 @@ struck room s k =
     cond (nat_le k 31)
     (cond (is_free (slice_index_or s.rows k free))
     (refused RowTaken k)
-    (if-room room s (with_row s k free)))
-    (refused BadRow (row-place at.Row))
+    (if_room room s (with_row s k free)))
+    (refused BadRow (row_place_number at.Row))

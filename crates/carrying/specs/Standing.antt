@@ -14,34 +14,34 @@ pub record Standing : Type 0 where
   pub rows : List Row
   pub count : ℕ
 
-abbrev pub standing-of : Held → Standing
-standing-of h = record { items = h.items; rows = h.rows; count = h.count }
+abbrev pub standing_of : Held → Standing
+standing_of h = record { items = h.items; rows = h.rows; count = h.count }
 
 -- at an opening: its items, 32 free rows, no records
 abbrev pub opened : List ℕ → Standing
 opened opening = record { items = opening; rows = replicate 32 free; count = 0 }
 
 -- the codes of items a and b replaced, and one record more
-abbrev pub with-codes : Standing → ℕ → ℕ → ℕ → ℕ → Standing
-with-codes s a b x y = record { items = slice_set (slice_set s.items a x) b y; rows = s.rows; count = s.count + 1 }
+abbrev pub with_codes : Standing → ℕ → ℕ → ℕ → ℕ → Standing
+with_codes s a b x y = record { items = slice_set (slice_set s.items a x) b y; rows = s.rows; count = s.count + 1 }
 
 -- a row replaced, and one record more
 abbrev pub with_row : Standing → ℕ → Row → Standing
 with_row s k w = record { items = s.items; rows = slice_set s.rows k w; count = s.count + 1 }
 
 -- what the step gives from what stands
-abbrev pub step-on : Meaning → Standing → ℕ → ℕ → ℕ → ℕ → Result (ℕ × ℕ) StepPlace
-step-on m s p a b n = m.step p a b (slice_index s.items a) (slice_index s.items b) n
+abbrev pub step_on : Meaning → Standing → ℕ → ℕ → ℕ → ℕ → Result (ℕ × ℕ) StepPlace
+step_on m s p a b n = m.step p a b (slice_index s.items a) (slice_index s.items b) n
 
 -- what the codes that a step gave make of what stands; nothing if it refused
 abbrev pub stepped : Standing → ℕ → ℕ → Result (ℕ × ℕ) StepPlace → Option Standing
-stepped s a b (Ok xy) = Some (with-codes s a b xy.0 xy.1)
+stepped s a b (Ok xy) = Some (with_codes s a b xy.0 xy.1)
 stepped s a b (Err e) = None
 
 -- the effect of a record, whatever tests it would pass: two codes that the step gives, a row filled or a row freed, and the
 -- record itself; nothing if the step refuses
 abbrev pub effect : Meaning → Standing → Record → Option Standing
-effect m s (Posting enterer countersigner p a b n) = stepped s a b (step-on m s p a b n)
+effect m s (Posting enterer countersigner p a b n) = stepped s a b (step_on m s p a b n)
 effect m s (Certification user p role k mask) =
     Some (with_row s k (record { user = user; procedure = p; role = role; mask = mask }))
 effect m s (Strike k) = Some (with_row s k free)

@@ -1,5 +1,5 @@
 ghost use Rattle.std.specs.Prelude.{◌≡◌};
-ghost use Rattle.carrying.specs.Standing.{standing-of};
+ghost use Rattle.carrying.specs.Standing.{standing_of};
 ghost use Rattle.carrying.specs.Carried.{carried};
 ghost use Rattle.carrying.specs.Results.{Carries};
 
@@ -18,7 +18,7 @@ pub fn carry_out<B: Book>(
     held: &mut Held,
     entry: Record,
 ) -> Result<(), Refusal>
-    ensures carries { Carries (carried B.Book.meaning room (standing-of held.old) entry) (standing-of held.old) result (standing-of held.new) }
+    ensures carries { Carries (carried B.meaning room (standing_of held.old) entry) (standing_of held.old) result (standing_of held.new) }
 {
     match entry {
         Record::Posting {

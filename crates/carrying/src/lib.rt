@@ -1,5 +1,7 @@
 // Carrying out: what a record does to what the books hold, and which refusal it earns where it may not. There is one
 // definition of it, which the calls of the monitor, the judge of an image and the law over every run all cite.
+#![tactic(auto)]
+
 mod carrying;
 mod held;
 mod posting;

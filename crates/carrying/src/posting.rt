@@ -1,6 +1,6 @@
 ghost use Rattle.std.specs.Prelude.{◌≡◌, ◌+◌, ◌<◌};
-ghost use Rattle.carrying.specs.Standing.{standing-of, with-codes};
-ghost use Rattle.carrying.specs.Carried.{if-valid, posted};
+ghost use Rattle.carrying.specs.Standing.{standing_of, with_codes};
+ghost use Rattle.carrying.specs.Carried.{if_valid, posted};
 ghost use Rattle.carrying.specs.Results.{Carries};
 
 use crate::held::Held;
@@ -18,7 +18,7 @@ fn take_codes<B: Book>(
     requires a_within { items.0 < 64 }
     requires b_within { items.1 < 64 }
     requires room { held.old.count + 1 < 18446744073709551616 }
-    ensures carries { Carries (if-valid B.Book.meaning (with-codes (standing-of held.old) items.0 items.1 codes.0 codes.1)) (standing-of held.old) result (standing-of held.new) }
+    ensures carries { Carries (if_valid B.meaning (with_codes (standing_of held.old) items.0 items.1 codes.0 codes.1)) (standing_of held.old) result (standing_of held.new) }
 {
     let mut after = held.items;
     after[items.0 as usize] = codes.0;
@@ -41,7 +41,7 @@ pub fn post<B: Book>(
     items: (u8, u8),
     amount: u64,
 ) -> Result<(), Refusal>
-    ensures carries { Carries (posted B.Book.meaning room (standing-of held.old) users.0 users.1 procedure items.0 items.1 amount) (standing-of held.old) result (standing-of held.new) }
+    ensures carries { Carries (posted B.meaning room (standing_of held.old) users.0 users.1 procedure items.0 items.1 amount) (standing_of held.old) result (standing_of held.new) }
 {
     let enterer = u64::from(users.0);
     let countersigner = u64::from(users.1);

@@ -1,6 +1,6 @@
 ghost use Rattle.std.specs.Prelude.{◌≡◌, ◌≤◌};
-ghost use Rattle.carrying.specs.Standing.{standing-of};
-ghost use Rattle.carrying.specs.Rows.{checked-row, filled, struck};
+ghost use Rattle.carrying.specs.Standing.{standing_of};
+ghost use Rattle.carrying.specs.Rows.{checked_row, filled, struck};
 ghost use Rattle.carrying.specs.Results.{Carries};
 
 use crate::held::Held;
@@ -25,7 +25,7 @@ pub fn check_row<B: Book>(
     role: u64,
     mask: u64,
 ) -> Result<Row, Refusal>
-    ensures value { result ≡ checked-row B.Book.meaning place (record { user = user; procedure = procedure; role = role; mask = mask }) }
+    ensures value { result ≡ checked_row B.meaning place (record { user = user; procedure = procedure; role = role; mask = mask }) }
 {
     if place > 31 {
         return Err(Refusal::at(Reason::BadRow, RowPlace::Row.place()));
@@ -53,7 +53,7 @@ pub fn check_row<B: Book>(
 /// Fills a free row, if there is room for the record.
 pub(crate) fn fill(room: u64, held: &mut Held, place: u8, row: Row) -> Result<(), Refusal>
     requires within { place ≤ 31 }
-    ensures carries { Carries (filled room (standing-of held.old) place row) (standing-of held.old) result (standing-of held.new) }
+    ensures carries { Carries (filled room (standing_of held.old) place row) (standing_of held.old) result (standing_of held.new) }
 {
     let before = held.rows[place as usize];
     if !before.is_free() {
@@ -69,7 +69,7 @@ pub(crate) fn fill(room: u64, held: &mut Held, place: u8, row: Row) -> Result<()
 
 /// Frees a row that is taken, if there is such a row and room for the record.
 pub(crate) fn strike(room: u64, held: &mut Held, place: u8) -> Result<(), Refusal>
-    ensures carries { Carries (struck room (standing-of held.old) place) (standing-of held.old) result (standing-of held.new) }
+    ensures carries { Carries (struck room (standing_of held.old) place) (standing_of held.old) result (standing_of held.new) }
 {
     if place > 31 {
         return Err(Refusal::at(Reason::BadRow, RowPlace::Row.place()));

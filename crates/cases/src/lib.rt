@@ -1,10 +1,12 @@
 // Worked examples: one table of them that is proved of the definitions, and tests that run the code on examples.
+#![tactic(auto)]
+
 ghost use Rattle.std.specs.Prelude.{◌≡◌, length};
-ghost use Rattle.cases.specs.Counter.{table, Examples-stand};
+ghost use Rattle.cases.specs.Counter.{table, ExamplesStand};
 
 /// How many worked examples the table has: the definitions give the answer of each.
 pub fn examples_stand() -> u64
-    ensures stand { Examples-stand }
+    ensures stand { ExamplesStand }
     ensures count { result ≡ length table }
 {
     11

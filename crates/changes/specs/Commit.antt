@@ -2,11 +2,11 @@
 use Rattle.std.specs.Prelude.{◌≡◌, ℕ, zero, suc, ◌+◌, ◌*◌, ◌<◌, ◌≤◌, Bool, true, ◌&&◌, ◌⊎◌, List, ◌∷◌, ◌++◌, drop, replicate, ◌==◌, nat_eq, nat_le, nat_lt, slice_index}
 use Rattle.std.specs.List.{flat_map}
 use Rattle.lists.specs.Every.{all}
-use Rattle.bytes.specs.Numbers.{two_bytes}
+use Rattle.encoding.specs.Numbers.{two_bytes}
 
 -- 64 bytes: the count, a zero, six numbers of two bytes each, and zeros. The numbers past the count are zero
-abbrev pub commit-block : ℕ → List ℕ → List ℕ
-commit-block n ns = n ∷ (0 ∷ (flat_map two_bytes ns ++ replicate 50 0))
+abbrev pub commit_block_of : ℕ → List ℕ → List ℕ
+commit_block_of n ns = n ∷ (0 ∷ (flat_map two_bytes ns ++ replicate 50 0))
 
 -- a block of 64 zeros
 abbrev pub zeros : List ℕ
@@ -43,7 +43,7 @@ rising size ns zero = true
 rising size ns (suc n) = (nat_lt (before ns n) (ns n) && nat_lt (ns n) size) && rising size ns n
 
 -- a test that a commit block is lawful
-abbrev pub lawful-commit : ℕ → List ℕ → Bool
-lawful-commit size c =
+abbrev pub lawful_commit : ℕ → List ℕ → Bool
+lawful_commit size c =
     (nat_le (count_of c) 6 && slice_index c 1 == 0)
     && (rising size (number_of c) (count_of c) && all (λ b. nat_eq b 0) (drop (2 + 2 * count_of c) c))

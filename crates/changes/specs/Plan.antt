@@ -8,8 +8,8 @@ pub record Plan : Type 0 where
   pub numbers : List ℕ
   pub contents : List (List ℕ)
 
-abbrev pub plan-of : Change → Plan
-plan-of c = record { count = c.count; numbers = c.numbers; contents = c.contents }
+abbrev pub plan_of : Change → Plan
+plan_of c = record { count = c.count; numbers = c.numbers; contents = c.contents }
 
 abbrev pub number : Plan → ℕ → ℕ
 number p i = slice_index p.numbers i
@@ -22,8 +22,8 @@ abbrev pub last : Plan → ℕ
 last p = number p (p.count - 1)
 
 -- a home block has a number from 7 that two bytes hold
-abbrev pub home-number : ℕ → Bool
-home-number b = nat_le 7 b && nat_le b 65535
+abbrev pub home_number : ℕ → Bool
+home_number b = nat_le 7 b && nat_le b 65535
 
 -- a change of one block
 abbrev pub of_one : ℕ → List ℕ → Plan
@@ -33,8 +33,8 @@ of_one b x = record { count = 1; numbers = slice_set (replicate 6 0) 0 b; conten
 abbrev pub takes : Plan → ℕ → Bool
 takes p b = nat_lt p.count 6 && (nat_lt (last p) b && nat_le b 65535)
 
-abbrev pub with-more : Plan → ℕ → List ℕ → Plan
-with-more p b x = record {
+abbrev pub with_more : Plan → ℕ → List ℕ → Plan
+with_more p b x = record {
   count = p.count + 1;
   numbers = slice_set p.numbers p.count b;
   contents = slice_set p.contents p.count x;

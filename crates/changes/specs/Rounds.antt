@@ -1,8 +1,8 @@
 -- A commit block is read back as it was written, and a lawful block is what its own reading writes.
 use Rattle.std.specs.Prelude.{◌≡◌, ℕ, ◌<◌, ◌≤◌, List, map, length, slice_index}
 use Rattle.std.specs.List.{range_with_len}
-use Rattle.bytes.specs.Numbers.{Block}
-use Rattle.changes.specs.Commit.{commit-block, count_of, number_of, Rises, Lawful}
+use Rattle.encoding.specs.Numbers.{Block}
+use Rattle.changes.specs.Commit.{commit_block_of, count_of, number_of, Rises, Lawful}
 
 -- numbers that a commit block can hold: six, of which those past the count are zero
 pub record Six (n : ℕ) (ns : List ℕ) : Type 0 where
@@ -16,11 +16,11 @@ abbrev pub numbers_of : List ℕ → List ℕ
 numbers_of c = map (number_of c) (range_with_len 0 6)
 
 -- what was written is lawful, and is read back
-pub record Reads-back (size n : ℕ) (ns : List ℕ) : Type 0 where
-  pub lawful : Lawful size (commit-block n ns)
-  pub count : count_of (commit-block n ns) ≡ n
-  pub numbers : (i : ℕ) → i < n → number_of (commit-block n ns) i ≡ slice_index ns i
+pub record ReadsBack (size n : ℕ) (ns : List ℕ) : Type 0 where
+  pub lawful : Lawful size (commit_block_of n ns)
+  pub count : count_of (commit_block_of n ns) ≡ n
+  pub numbers : (i : ℕ) → i < n → number_of (commit_block_of n ns) i ≡ slice_index ns i
 
-pub record Round-trip : Type 0 where
-  pub written : (size n : ℕ) (ns : List ℕ) → Six n ns → Rises size n (λ i. slice_index ns i) → Reads-back size n ns
-  pub read : (size : ℕ) (c : List ℕ) → Block c → Lawful size c → commit-block (count_of c) (numbers_of c) ≡ c
+pub record RoundTrip : Type 0 where
+  pub written : (size n : ℕ) (ns : List ℕ) → Six n ns → Rises size n (λ i. slice_index ns i) → ReadsBack size n ns
+  pub read : (size : ℕ) (c : List ℕ) → Block c → Lawful size c → commit_block_of (count_of c) (numbers_of c) ≡ c

@@ -1,14 +1,14 @@
 ghost use Rattle.std.specs.Prelude.{◌≡◌, ℕ, ◌<◌, ◌≤◌, Decides, slice_index};
-ghost use Rattle.changes.specs.Commit.{commit-block, number_of, Rises, Lawful};
-ghost use Rattle.changes.specs.Plan.{plan-of};
-ghost use Rattle.changes.specs.Rounds.{Round-trip};
+ghost use Rattle.changes.specs.Commit.{commit_block_of, number_of, Rises, Lawful};
+ghost use Rattle.changes.specs.Plan.{plan_of};
+ghost use Rattle.changes.specs.Rounds.{RoundTrip};
 
 use crate::change::Change;
 
 impl Change {
     /// The commit block that names the change's blocks.
     pub fn commit_block(&self) -> [u8; 64]
-        ensures value { result ≡ commit-block (plan-of self.now).count (plan-of self.now).numbers }
+        ensures value { result ≡ commit_block_of (plan_of self.now).count (plan_of self.now).numbers }
     {
         let mut block = [0; 64];
         block[0] = self.count as u8;
@@ -75,7 +75,7 @@ pub fn is_lawful(commit: &[u8; 64], size: u64) -> bool
 
 /// A theorem: what is written is read back, and what is lawful is what its own reading writes.
 pub fn commit_blocks_round_trip() -> bool
-    ensures holds { Round-trip }
+    ensures holds { RoundTrip }
 {
     true
 }

@@ -1,12 +1,12 @@
 ghost use Rattle.std.specs.Prelude.{◌≡◌, true, false, if◌then◌else◌, MatchOption};
-ghost use Rattle.changes.specs.Plan.{plan-of, home-number, of_one, takes, with-more};
+ghost use Rattle.changes.specs.Plan.{plan_of, home_number, of_one, takes, with_more};
 
 use crate::change::Change;
 
 impl Change {
     /// A change of one block; none where its number is no home block's.
     pub fn of(block: u64, content: &[u8; 64]) -> Option<Change>
-        ensures value { MatchOption result (home-number block ≡ false) (λ c. (home-number block ≡ true) × (plan-of c ≡ of_one block content.now)) }
+        ensures value { MatchOption result (home_number block ≡ false) (λ c. (home_number block ≡ true) × (plan_of c ≡ of_one block content.now)) }
     {
         if block < 7 || block > 65_535 {
             return None;
@@ -24,8 +24,8 @@ impl Change {
 
     /// Adds a block behind the others; false, and nothing changed, where it does not fit there.
     pub fn add(&mut self, block: u64, content: &[u8; 64]) -> bool
-        ensures value { result ≡ takes (plan-of self.old) block }
-        ensures after { plan-of self.new ≡ (if result then with-more (plan-of self.old) block content.now else plan-of self.old) }
+        ensures value { result ≡ takes (plan_of self.old) block }
+        ensures after { plan_of self.new ≡ (if result then with_more (plan_of self.old) block content.now else plan_of self.old) }
     {
         let n = self.count;
         if n >= 6 || self.numbers[n - 1] as u64 >= block || block > 65_535 {

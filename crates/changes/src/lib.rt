@@ -1,5 +1,7 @@
 // A change: one to six home blocks and what they are to hold, in strictly rising number, in fixed memory; and the
 // commit block that names them.
+#![tactic(auto)]
+
 mod change;
 mod commit;
 mod growing;

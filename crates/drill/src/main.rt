@@ -1,6 +1,8 @@
 // `drill`: makes one change of four blocks on a trial drive that loses power at each cut number in turn, once with
 // the write that loses power not landing and once landing. Then it finishes on a fresh drive over the same bytes, and
 // prints where the change was cut and whether it stands.
+#![tactic(auto)]
+
 use changes::Change;
 use drives::Drive;
 use journals::{ChangeFault, Journal};

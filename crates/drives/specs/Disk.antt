@@ -26,9 +26,9 @@ pub record Settled (d : Disk) : Type 0 where
   pub itself : (i : ℕ) → May d i (present d i)
 
 -- from d to e no set gains a member
-abbrev pub No-gain : Disk → Disk → Type 0
-No-gain d e = (i : ℕ) (x : List ℕ) → May e i x → May d i x
+abbrev pub NoGain : Disk → Disk → Type 0
+NoGain d e = (i : ℕ) (x : List ℕ) → May e i x → May d i x
 
 -- from d to e the set of block b gains at most x, and no other set gains
-abbrev pub Gains-only : Disk → ℕ → List ℕ → Disk → Type 0
-Gains-only d b x e = (i : ℕ) (y : List ℕ) → May e i y → May d i y ⊎ ((i ≡ b) × (y ≡ x))
+abbrev pub GainsOnly : Disk → ℕ → List ℕ → Disk → Type 0
+GainsOnly d b x e = (i : ℕ) (y : List ℕ) → May e i y → May d i y ⊎ ((i ≡ b) × (y ≡ x))

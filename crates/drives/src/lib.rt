@@ -1,5 +1,7 @@
 // A block drive, by what it means: 64-byte blocks, power that may fail in any call, and writes that may or may not
 // have reached the blocks when it does. Everything above is proved for every drive that keeps this meaning.
+#![tactic(auto)]
+
 ghost use Rattle.std.specs.Prelude.{◌≡◌};
 ghost use Rattle.drives.specs.Disk.{Disk, size as type_size};
 ghost use Rattle.drives.specs.Calls.{Reads, Writes, Flushes, Powers};

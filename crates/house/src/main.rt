@@ -1,6 +1,8 @@
 // `house`: reads a script from the file that its argument names, or from standard input, and prints the reply to
 // each note, and last to the bad line that ended the run, if one did. What it answers is the library's; here is only
 // reading and printing.
+#![tactic(auto)]
+
 use script::run_script;
 use std::io::Read;
 use std::{env, fs, io};

@@ -1,34 +1,34 @@
 -- The verdict accepts exactly the lawful images.
-use Rattle.std.proofs.Common.{◌≡◌, ℕ, ◌+◌, ◌≤◌, Bool, true, false, cond, ◌&&◌, eqb, leb, List, [], length, get_or, Some, None, Ok, Err, Option, Result, sym, refl, ap, ◌∙◌, subst, arith}
+use Rattle.std.proofs.Common.{◌≡◌, ℕ, ◌≤◌, ◌&&◌, eqb, leb, List, [], length, get_or, Some, None, Ok, Err, Option, Result, sym, refl, ap, ◌∙◌, subst, arith}
 use Rattle.std.proofs.lemmas.Bool.{and_parts, and_from, eq-eqb, eqb-true, le-leb, leb-true, cond-true}
 use Rattle.refusals.specs.declared.refusal.Refusal.{Refusal}
 use Rattle.refusals.specs.Refused.{and_then}
 use Rattle.books.specs.Meaning.{Meaning}
 use Rattle.books.proofs.Accepted.{passed, same_ok}
-use Rattle.changes.specs.Commit.{lawful-commit}
-use Rattle.changes.proofs.Testing.{lawful-decides}
+use Rattle.changes.specs.Commit.{lawful_commit}
+use Rattle.changes.proofs.Testing.{lawful_decides}
 use Rattle.journals.specs.Redo.{finished, home}
 use Rattle.layout.specs.declared.head.Head.{Head}
 use Rattle.layout.specs.Head.{head_of}
-use Rattle.layout.proofs.Back.{head_read, head-exact}
-use Rattle.carrying.specs.Standing.{Standing, opened}
-use Rattle.image.specs.Home.{at, blocks_at, opening_on, codes-blocks, rows-blocks}
-use Rattle.image.specs.Lawful.{lawful-size, room, Lawful-home, Lawful-image}
-use Rattle.image.specs.Verdict.{replayed, differing, differing-block, first_of, compared, checked-head, checked-opening, judged, verdict, Accepts-exactly-lawful}
-use Rattle.image.proofs.Replaying.{replay-standing, standing-replay}
-use Rattle.image.proofs.Comparing.{none-differs, same_blocks, both-none}
+use Rattle.layout.proofs.Back.{head_read, head_exact}
+use Rattle.carrying.specs.Standing.{opened}
+use Rattle.image.specs.Home.{at, blocks_at, opening_on, blocks_of_codes, blocks_of_rows}
+use Rattle.image.specs.Lawful.{lawful_size, room, LawfulHome}
+use Rattle.image.specs.Verdict.{replayed, differing, differing_block, first_of, compared, checked_head, checked_opening, judged, AcceptsExactlyLawful}
+use Rattle.image.proofs.Replaying.{replay_standing, standing_replay}
+use Rattle.image.proofs.Comparing.{none_differs, same_blocks, both_none}
 
 -- what follows an accepted answer was accepted
-pub accepted-then :
+pub accepted_then :
     {X Y : Type 0} (r : Result X Refusal) (next : X → Result Y Refusal) (y : Y)
     → and_then r next ≡ Ok y → (x : X) × (r ≡ Ok x) × (next x ≡ Ok y)
-accepted-then (Ok x) next y e = (x, refl, e)
-accepted-then (Err f) next y e = absurd (let z : ◌≡◌ {A = ℕ} 0 1 = cc in omega arith)
+accepted_then (Ok x) next y e = (x, refl, e)
+accepted_then (Err f) next y e = absurd (let z : ◌≡◌ {A = ℕ} 0 1 = cc in omega arith)
 
 -- what a test accepted
-tested-head : (m : Meaning) (most : ℕ) (o : Option Head) (d : Head) → checked-head m most o ≡ Ok d → (o ≡ Some d) × (d.kind ≡ m.kind) × (d.count ≤ most)
-tested-head m most None d e = absurd (let z : ◌≡◌ {A = ℕ} 0 1 = cc in omega arith)
-tested-head m most (Some f) d e =
+tested_head : (m : Meaning) (most : ℕ) (o : Option Head) (d : Head) → checked_head m most o ≡ Ok d → (o ≡ Some d) × (d.kind ≡ m.kind) × (d.count ≤ most)
+tested_head m most None d e = absurd (let z : ◌≡◌ {A = ℕ} 0 1 = cc in omega arith)
+tested_head m most (Some f) d e =
     let p = passed (eqb f.kind m.kind && leb f.count most) (Ok f) _ d e in
     let q = and_parts (eqb f.kind m.kind) (leb f.count most) p.0 in
     let same : f ≡ d = same_ok f d p.1 in (
@@ -37,63 +37,63 @@ tested-head m most (Some f) d e =
       subst (λ (z : Head). z.count ≤ most) same (leb-true f.count most q.1),
     )
 
-compared-none : (n k : ℕ) (o : Option ℕ) → compared n o ≡ Ok k → o ≡ None
-compared-none n k None e = refl
-compared-none n k (Some j) e = absurd (let z : ◌≡◌ {A = ℕ} 0 1 = cc in omega arith)
+compared_none : (n k : ℕ) (o : Option ℕ) → compared n o ≡ Ok k → o ≡ None
+compared_none n k None e = refl
+compared_none n k (Some j) e = absurd (let z : ◌≡◌ {A = ℕ} 0 1 = cc in omega arith)
 
 module _ (m : Meaning) (most : ℕ) (h : List (List ℕ)) where
   -- lawful home blocks are accepted
-  pub judge-accepts : (l : Lawful-home m most h) → judged m most h ≡ Ok l.head.count
-  judge-accepts l =
+  pub judge_accepts : (l : LawfulHome m most h) → judged m most h ≡ Ok l.head.count
+  judge_accepts l =
       let n = l.head.count in
-      let head : checked-head m most (head_of (at h 7)) ≡ Ok l.head = ap (checked-head m most) (head_read l.head (at h 7) l.head-stands) ∙ cond-true (eqb l.head.kind m.kind && leb n most) _ _ (and_from _ _ (eq-eqb _ _ l.own-kind) (le-leb _ _ l.found-room)) in
-      let opening : checked-opening m (opening_on h) ≡ Ok (opened (opening_on h)) = cond-true (m.valid (opening_on h)) _ _ l.valid-opening in
-      let replay = replay-standing m most h n 1 (opened (opening_on h)) l.after l.records l.every-record l.records-stand l.carried-out in
-      let same : differing-block h l.after ≡ None = ap (λ z. first_of z (differing 24 (blocks_at h 24 8) (rows-blocks l.after.rows))) (same_blocks 8 (blocks_at h 8 8) (codes-blocks l.after.items) l.items-found) ∙ same_blocks 24 (blocks_at h 24 8) (rows-blocks l.after.rows) l.rows-found in
-      ap (λ r. and_then r (λ d. and_then (checked-opening m (opening_on h)) (λ s. and_then (replayed m most h d.count 1 s) (λ t. compared d.count (differing-block h t))))) head
-      ∙ ap (λ r. and_then r (λ s. and_then (replayed m most h n 1 s) (λ t. compared n (differing-block h t)))) opening
-      ∙ ap (λ r. and_then r (λ t. compared n (differing-block h t))) replay
+      let head : checked_head m most (head_of (at h 7)) ≡ Ok l.head = ap (checked_head m most) (head_read l.head (at h 7) l.head_stands) ∙ cond-true (eqb l.head.kind m.kind && leb n most) _ _ (and_from _ _ (eq-eqb _ _ l.own_kind) (le-leb _ _ l.found_room)) in
+      let opening : checked_opening m (opening_on h) ≡ Ok (opened (opening_on h)) = cond-true (m.valid (opening_on h)) _ _ l.valid_opening in
+      let replay = replay_standing m most h n 1 (opened (opening_on h)) l.after l.records l.every_record l.records_stand l.carried_out in
+      let same : differing_block h l.after ≡ None = ap (λ z. first_of z (differing 24 (blocks_at h 24 8) (blocks_of_rows l.after.rows))) (same_blocks 8 (blocks_at h 8 8) (blocks_of_codes l.after.items) l.items_found) ∙ same_blocks 24 (blocks_at h 24 8) (blocks_of_rows l.after.rows) l.rows_found in
+      ap (λ r. and_then r (λ d. and_then (checked_opening m (opening_on h)) (λ s. and_then (replayed m most h d.count 1 s) (λ t. compared d.count (differing_block h t))))) head
+      ∙ ap (λ r. and_then r (λ s. and_then (replayed m most h n 1 s) (λ t. compared n (differing_block h t)))) opening
+      ∙ ap (λ r. and_then r (λ t. compared n (differing_block h t))) replay
       ∙ ap (compared n) same
 
   -- what is accepted is lawful
-  pub judge-accepted : (n : ℕ) → judged m most h ≡ Ok n → Lawful-home m most h
-  judge-accepted n e =
-      let d = accepted-then (checked-head m most (head_of (at h 7))) _ n e in
-      let f = tested-head m most (head_of (at h 7)) d.0 d.1 in
-      let s = accepted-then (checked-opening m (opening_on h)) _ n d.2 in
+  pub judge_accepted : (n : ℕ) → judged m most h ≡ Ok n → LawfulHome m most h
+  judge_accepted n e =
+      let d = accepted_then (checked_head m most (head_of (at h 7))) _ n e in
+      let f = tested_head m most (head_of (at h 7)) d.0 d.1 in
+      let s = accepted_then (checked_opening m (opening_on h)) _ n d.2 in
       let v = passed (m.valid (opening_on h)) (Ok (opened (opening_on h))) _ s.0 s.1 in
       let from = same_ok (opened (opening_on h)) s.0 v.1 in
-      let t = accepted-then (replayed m most h d.0.count 1 s.0) _ n s.2 in
-      let r = standing-replay m most h d.0.count 1 (opened (opening_on h)) t.0 (ap (replayed m most h d.0.count 1) from ∙ t.1) in
-      let blocks = both-none (differing 8 (blocks_at h 8 8) (codes-blocks t.0.items)) (differing 24 (blocks_at h 24 8) (rows-blocks t.0.rows)) (compared-none d.0.count n (differing-block h t.0) t.2) in
+      let t = accepted_then (replayed m most h d.0.count 1 s.0) _ n s.2 in
+      let r = standing_replay m most h d.0.count 1 (opened (opening_on h)) t.0 (ap (replayed m most h d.0.count 1) from ∙ t.1) in
+      let blocks = both_none (differing 8 (blocks_at h 8 8) (blocks_of_codes t.0.items)) (differing 24 (blocks_at h 24 8) (blocks_of_rows t.0.rows)) (compared_none d.0.count n (differing_block h t.0) t.2) in
       record {
         head = d.0;
-        head-stands = head-exact d.0 (at h 7) f.0;
-        own-kind = f.1;
-        found-room = f.2;
-        valid-opening = v.0;
+        head_stands = head_exact d.0 (at h 7) f.0;
+        own_kind = f.1;
+        found_room = f.2;
+        valid_opening = v.0;
         records = r.records;
-        every-record = r.every;
-        records-stand = r.stand;
+        every_record = r.every;
+        records_stand = r.stand;
         after = t.0;
-        carried-out = r.carried-out;
-        items-found = none-differs 8 (blocks_at h 8 8) (codes-blocks t.0.items) refl blocks.0;
-        rows-found = none-differs 24 (blocks_at h 24 8) (rows-blocks t.0.rows) refl blocks.1;
+        carried_out = r.carried_out;
+        items_found = none_differs 8 (blocks_at h 8 8) (blocks_of_codes t.0.items) refl blocks.0;
+        rows_found = none_differs 24 (blocks_at h 24 8) (blocks_of_rows t.0.rows) refl blocks.1;
       }
 
-pub accepts-exactly-lawful : Accepts-exactly-lawful
-accepts-exactly-lawful =
+pub accepts_exactly_lawful : AcceptsExactlyLawful
+accepts_exactly_lawful =
     record {
       accepts = λ m p l. (
-          cond-true (lawful-size (length p)) _ _ l.lawful-length
-          ∙ cond-true (lawful-commit (length p) (get_or p 0 [])) _ _ ((lawful-decides (length p) (get_or p 0 [])).1 l.lawful-commit)
-          ∙ judge-accepts m (room (length p)) (home (finished p)) l.lawful-home);
+          cond-true (lawful_size (length p)) _ _ l.lawful_length
+          ∙ cond-true (lawful_commit (length p) (get_or p 0 [])) _ _ ((lawful_decides (length p) (get_or p 0 [])).1 l.lawful_commit)
+          ∙ judge_accepts m (room (length p)) (home (finished p)) l.lawful_home);
       accepted = λ m p n e. (
-          let s = passed (lawful-size (length p)) _ _ n e in
-          let c = passed (lawful-commit (length p) (get_or p 0 [])) _ _ n s.1 in
+          let s = passed (lawful_size (length p)) _ _ n e in
+          let c = passed (lawful_commit (length p) (get_or p 0 [])) _ _ n s.1 in
           record {
-            lawful-length = s.0;
-            lawful-commit = (lawful-decides (length p) (get_or p 0 [])).0 c.0;
-            lawful-home = judge-accepted m (room (length p)) (home (finished p)) n c.1;
+            lawful_length = s.0;
+            lawful_commit = (lawful_decides (length p) (get_or p 0 [])).0 c.0;
+            lawful_home = judge_accepted m (room (length p)) (home (finished p)) n c.1;
           });
     }

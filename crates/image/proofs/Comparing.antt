@@ -1,36 +1,36 @@
 -- Blocks that are compared one by one are the same list or differ at a first one.
-use Rattle.std.proofs.Common.{◌≡◌, ℕ, suc, Bool, true, false, cond, List, [], ◌∷◌, length, Some, None, Option, sym, refl, ap, ◌∙◌, arith}
+use Rattle.std.proofs.Common.{◌≡◌, ℕ, suc, Bool, true, false, cond, List, [], ◌∷◌, length, Some, None, Option, refl, ap, ◌∙◌, arith}
 use Rattle.std.specs.Str.{bytes_eq}
 use Rattle.std.proofs.lemmas.Slice.Eq.{bytes_eq-Decides}
 use Rattle.image.specs.Verdict.{differing, first_of}
 
-same-cons : (b x : List ℕ) (bs xs : List (List ℕ)) → b ≡ x → bs ≡ xs → b ∷ bs ≡ x ∷ xs
-same-cons b x bs xs p q = cc
+same_cons : (b x : List ℕ) (bs xs : List (List ℕ)) → b ≡ x → bs ≡ xs → b ∷ bs ≡ x ∷ xs
+same_cons b x bs xs p q = cc
 
 -- the next block, and then the rest
-none-tested :
+none_tested :
     (k : ℕ) (b x : List ℕ) (bs xs : List (List ℕ)) → (differing (suc k) bs xs ≡ None → bs ≡ xs)
     → (t : Bool) → bytes_eq b x ≡ t → cond t (differing (suc k) bs xs) (Some k) ≡ None → b ∷ bs ≡ x ∷ xs
-none-tested k b x bs xs then true t e = same-cons b x bs xs ((bytes_eq-Decides b x).0 t) (then e)
-none-tested k b x bs xs then false t e = absurd (let z : ◌≡◌ {A = ℕ} 0 1 = cc in omega arith)
+none_tested k b x bs xs then true t e = same_cons b x bs xs ((bytes_eq-Decides b x).0 t) (then e)
+none_tested k b x bs xs then false t e = absurd (let z : ◌≡◌ {A = ℕ} 0 1 = cc in omega arith)
 
 -- none differs: they are the blocks expected
-pub none-differs : (k : ℕ) (bs xs : List (List ℕ)) → length bs ≡ length xs → differing k bs xs ≡ None → bs ≡ xs
-none-differs k [] [] l e = refl
-none-differs k [] (x ∷ xs) l e = absurd (omega arith)
-none-differs k (b ∷ bs) [] l e = absurd (omega arith)
-none-differs k (b ∷ bs) (x ∷ xs) l e = none-tested k b x bs xs (none-differs (suc k) bs xs (omega arith)) (bytes_eq b x) refl e
+pub none_differs : (k : ℕ) (bs xs : List (List ℕ)) → length bs ≡ length xs → differing k bs xs ≡ None → bs ≡ xs
+none_differs k [] [] l e = refl
+none_differs k [] (x ∷ xs) l e = absurd (omega arith)
+none_differs k (b ∷ bs) [] l e = absurd (omega arith)
+none_differs k (b ∷ bs) (x ∷ xs) l e = none_tested k b x bs xs (none_differs (suc k) bs xs (omega arith)) (bytes_eq b x) refl e
 
 -- the same blocks do not differ
-same-differs-none : (k : ℕ) (xs : List (List ℕ)) → differing k xs xs ≡ None
-same-differs-none k [] = refl
-same-differs-none k (x ∷ xs) =
-    ap (λ z. cond z (differing (suc k) xs xs) (Some k)) ((bytes_eq-Decides x x).1 refl) ∙ same-differs-none (suc k) xs
+same_differs_none : (k : ℕ) (xs : List (List ℕ)) → differing k xs xs ≡ None
+same_differs_none k [] = refl
+same_differs_none k (x ∷ xs) =
+    ap (λ z. cond z (differing (suc k) xs xs) (Some k)) ((bytes_eq-Decides x x).1 refl) ∙ same_differs_none (suc k) xs
 
 pub same_blocks : (k : ℕ) (bs xs : List (List ℕ)) → bs ≡ xs → differing k bs xs ≡ None
-same_blocks k bs xs e = ap (λ z. differing k z xs) e ∙ same-differs-none k xs
+same_blocks k bs xs e = ap (λ z. differing k z xs) e ∙ same_differs_none k xs
 
 -- neither of two differs
-pub both-none : (o q : Option ℕ) → first_of o q ≡ None → (o ≡ None) × (q ≡ None)
-both-none None q e = (refl, e)
-both-none (Some k) q e = absurd (let z : ◌≡◌ {A = ℕ} 0 1 = cc in omega arith)
+pub both_none : (o q : Option ℕ) → first_of o q ≡ None → (o ≡ None) × (q ≡ None)
+both_none None q e = (refl, e)
+both_none (Some k) q e = absurd (let z : ◌≡◌ {A = ℕ} 0 1 = cc in omega arith)

@@ -1,6 +1,5 @@
 -- Reading a part of eight blocks.
-use Rattle.std.proofs.Common.{◌≡◌, ℕ, ◌+◌, ◌-◌, ◌<◌, ◌≤◌, Bool, true, false, ◌⊎◌, List, [], map, length, get_or, drop, Ok, Err, Result, sym, ap, ◌∙◌, subst, inl, inr, arith}
-use Rattle.std.specs.List.{range_with_len}
+use Rattle.std.proofs.Common.{◌≡◌, ℕ, ◌+◌, ◌-◌, ◌<◌, ◌≤◌, true, List, [], length, get_or, Ok, Err, Result, sym, ap, ◌∙◌, subst, inl, inr, arith}
 use Rattle.std.proofs.lemmas.List.FromFn.{get_or-map-range_with_len, length-map-range_with_len}
 use Rattle.std.proofs.lemmas.List.{get_or-drop, ext_get_or}
 use Rattle.std.proofs.lemmas.Bool.{both_ways, cases_Bool, cases_lt}
@@ -8,10 +7,10 @@ use Rattle.drives.specs.declared.DriveFault.{DriveFault}
 use Rattle.drives.specs.declared.DriveFault.TheVariants.{Off, NoSuchBlock}
 use Rattle.drives.specs.Disk.{Disk, present, size}
 use Rattle.journals.specs.Redo.{home}
-use Rattle.journals.specs.Outcomes.{Reads-block}
-use Rattle.journals.proofs.Reading.{Was-not-read, was_read, not-ok, same_ok}
+use Rattle.journals.specs.Outcomes.{ReadsBlock}
+use Rattle.journals.proofs.Reading.{WasNotRead, was_read, not_ok, same_ok}
 use Rattle.image.specs.Home.{at, blocks_at}
-use Rattle.image.specs.Parts.{Reads-part}
+use Rattle.image.specs.Parts.{ReadsPart}
 
 -- a home block, by its number on the drive
 pub at_home : (p : List (List ℕ)) (k : ℕ) → 7 ≤ k → at (home p) k ≡ get_or p k []
@@ -22,27 +21,27 @@ at_home p k h =
 -- eight blocks that were read
 pub all_read :
     (d : Disk) (first : ℕ) (xs : List (List ℕ)) → 7 ≤ first → length xs ≡ 8 → d.on ≡ true → first + 8 ≤ size d
-    → ((k : ℕ) → k < 8 → get_or xs k [] ≡ present d (first + k)) → Reads-part d first (Ok xs)
+    → ((k : ℕ) → k < 8 → get_or xs k [] ≡ present d (first + k)) → ReadsPart d first (Ok xs)
 all_read d first xs low l on wide each =
     let same : xs ≡ blocks_at (home d.blocks) first 8 = ext_get_or [] xs (blocks_at (home d.blocks) first 8) (l ∙ sym (length-map-range_with_len (at (home d.blocks)) first 8)) (λ k h. each k (omega arith) ∙ sym (get_or-map-range_with_len (at (home d.blocks)) first 8 k (first + k) [] (omega arith) (omega arith) ∙ at_home d.blocks (first + k) (omega arith))) in
     record {
-      refused-off = λ off. absurd (both_ways d.on off on);
-      refused-beyond = λ _ h. absurd (omega arith);
+      refused_off = λ off. absurd (both_ways d.on off on);
+      refused_beyond = λ _ h. absurd (omega arith);
       met = λ _ _. ap Ok same;
     }
 
 -- one of them was not
-pub none_read : (d : Disk) (first i : ℕ) (e : DriveFault) → i < 8 → (0 < i → d.on ≡ true) → (0 < i → first + i ≤ size d) → Was-not-read d (first + i) e → Reads-part d first (Err e)
+pub none_read : (d : Disk) (first i : ℕ) (e : DriveFault) → i < 8 → (0 < i → d.on ≡ true) → (0 < i → first + i ≤ size d) → WasNotRead d (first + i) e → ReadsPart d first (Err e)
 none_read d first i e h on wide n =
     elim n.why [
       | inl off ↦ record {
-        refused-off = λ _. ap Err off.1;
-        refused-beyond = λ t _. absurd (both_ways d.on off.0 t);
+        refused_off = λ _. ap Err off.1;
+        refused_beyond = λ t _. absurd (both_ways d.on off.0 t);
         met = λ t _. absurd (both_ways d.on off.0 t);
       }
       | inr beyond ↦ record {
-        refused-off = λ f. absurd (both_ways d.on f beyond.0);
-        refused-beyond = λ _ _. ap Err beyond.2;
+        refused_off = λ f. absurd (both_ways d.on f beyond.0);
+        refused_beyond = λ _ _. ap Err beyond.2;
         met = λ _ l. absurd (omega (arith, beyond.1));
       }
     ]
@@ -50,29 +49,29 @@ none_read d first i e h on wide n =
 -- the same answer, by other names
 pub read_as :
     (d : Disk) (first k : ℕ) (r : Result (List (List ℕ)) DriveFault) (e f : DriveFault)
-    → r ≡ Err f → f ≡ e → first ≡ k → Reads-part d first (Err e) → Reads-part d k r
+    → r ≡ Err f → f ≡ e → first ≡ k → ReadsPart d first (Err e) → ReadsPart d k r
 read_as d first k r e f p q s h =
-    subst (λ (z : ℕ). Reads-part d z r) s (subst (λ (z : Result (List (List ℕ)) DriveFault). Reads-part d first z) (sym (p ∙ ap Err q)) h)
+    subst (λ (z : ℕ). ReadsPart d z r) s (subst (λ (z : Result (List (List ℕ)) DriveFault). ReadsPart d first z) (sym (p ∙ ap Err q)) h)
 
 -- a home block that was read
-pub block-found : (d : Disk) (k : ℕ) (x : List ℕ) → 7 ≤ k → Reads-block d k (Ok x) → x ≡ at (home d.blocks) k
-block-found d k x low r = (was_read d k x r).content ∙ sym (at_home d.blocks k low)
+pub block_found : (d : Disk) (k : ℕ) (x : List ℕ) → 7 ≤ k → ReadsBlock d k (Ok x) → x ≡ at (home d.blocks) k
+block_found d k x low r = (was_read d k x r).content ∙ sym (at_home d.blocks k low)
 
 -- a part that was read
-pub part-found : (d : Disk) (k : ℕ) (xs : List (List ℕ)) → Reads-part d k (Ok xs) → xs ≡ blocks_at (home d.blocks) k 8
-part-found d k xs r =
+pub part_found : (d : Disk) (k : ℕ) (xs : List (List ℕ)) → ReadsPart d k (Ok xs) → xs ≡ blocks_at (home d.blocks) k 8
+part_found d k xs r =
     elim (cases_Bool d.on) [
-      | inr off ↦ not-ok xs Off (r.refused-off off)
+      | inr off ↦ not_ok xs Off (r.refused_off off)
       | inl on ↦ elim (cases_lt (size d) (k + 8)) [
-        | inl beyond ↦ not-ok xs NoSuchBlock (r.refused-beyond on beyond)
+        | inl beyond ↦ not_ok xs NoSuchBlock (r.refused_beyond on beyond)
         | inr within ↦ same_ok xs (blocks_at (home d.blocks) k 8) (r.met on within)
       ]
     ]
 
 -- a part that is there is read
-pub part-there : {X : Type 0} (d : Disk) (k : ℕ) (e : DriveFault) → Reads-part d k (Err e) → d.on ≡ true → k + 8 ≤ size d → X
-part-there d k e r on wide = not-ok (blocks_at (home d.blocks) k 8) e (sym (r.met on wide))
+pub part_there : {X : Type 0} (d : Disk) (k : ℕ) (e : DriveFault) → ReadsPart d k (Err e) → d.on ≡ true → k + 8 ≤ size d → X
+part_there d k e r on wide = not_ok (blocks_at (home d.blocks) k 8) e (sym (r.met on wide))
 
 -- a block that is there is read
-pub block-there : {X : Type 0} (d : Disk) (k : ℕ) (e : DriveFault) → Reads-block d k (Err e) → d.on ≡ true → k < size d → X
-block-there d k e r on wide = not-ok (present d k) e (sym (r.met on wide))
+pub block_there : {X : Type 0} (d : Disk) (k : ℕ) (e : DriveFault) → ReadsBlock d k (Err e) → d.on ≡ true → k < size d → X
+block_there d k e r on wide = not_ok (present d k) e (sym (r.met on wide))

@@ -15,7 +15,7 @@ first_block Opening = 16
 first_block Rows = 24
 
 -- reading the eight blocks from k on: refused without power, then where they are not all on the drive
-pub record Reads-part (d : Disk) (k : ℕ) (r : Result (List (List ℕ)) DriveFault) : Type 0 where
-  pub refused-off : d.on ≡ false → r ≡ Err Off
-  pub refused-beyond : d.on ≡ true → size d < k + 8 → r ≡ Err NoSuchBlock
+pub record ReadsPart (d : Disk) (k : ℕ) (r : Result (List (List ℕ)) DriveFault) : Type 0 where
+  pub refused_off : d.on ≡ false → r ≡ Err Off
+  pub refused_beyond : d.on ≡ true → size d < k + 8 → r ≡ Err NoSuchBlock
   pub met : d.on ≡ true → k + 8 ≤ size d → r ≡ Ok (blocks_at (home d.blocks) k 8)

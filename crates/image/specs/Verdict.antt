@@ -1,38 +1,38 @@
 -- The verdict on an image: how many records stand, or the first refusal that it earns.
-use Rattle.std.specs.Prelude.{◌≡◌, ℕ, zero, suc, ◌+◌, cond, ◌&&◌, List, [], ◌∷◌, length, Some, None, Ok, Err, Option, Result, ◌==◌, nat_le, slice_index_or}
+use Rattle.std.specs.Prelude.{◌≡◌, ℕ, zero, suc, cond, ◌&&◌, List, [], ◌∷◌, length, Some, None, Ok, Err, Option, Result, ◌==◌, nat_le, slice_index_or}
 use Rattle.std.specs.Str.{bytes_eq}
 use Rattle.refusals.specs.declared.reasons.Reason.TheVariants.{BadSize, InvalidOpening, BadCommitBlock, BadHead, BadRecord, BlockDiffers}
 use Rattle.refusals.specs.declared.refusal.Refusal.{Refusal}
 use Rattle.refusals.specs.Refused.{refused, and_then}
 use Rattle.books.specs.Meaning.{Meaning}
-use Rattle.changes.specs.Commit.{lawful-commit}
+use Rattle.changes.specs.Commit.{lawful_commit}
 use Rattle.journals.specs.Redo.{finished, home}
 use Rattle.records.specs.declared.record.Record.{Record}
 use Rattle.layout.specs.declared.head.Head.{Head}
 use Rattle.layout.specs.Head.{head_of}
 use Rattle.carrying.specs.Standing.{Standing, opened}
 use Rattle.carrying.specs.Carried.{carried}
-use Rattle.image.specs.Home.{at, blocks_at, opening_on, record-on, codes-blocks, rows-blocks}
-use Rattle.image.specs.Lawful.{lawful-size, room, Lawful-image}
+use Rattle.image.specs.Home.{at, blocks_at, opening_on, record_on, blocks_of_codes, blocks_of_rows}
+use Rattle.image.specs.Lawful.{lawful_size, room, LawfulImage}
 
 -- record k, in exact form (21)
-abbrev pub exact-record : ℕ → Option Record → Result Record Refusal
-exact-record k None = refused BadRecord k
-exact-record k (Some x) = Ok x
+abbrev pub exact_record : ℕ → Option Record → Result Record Refusal
+exact_record k None = refused BadRecord k
+exact_record k (Some x) = Ok x
 
 -- a record that is refused when it is carried out makes the image unlawful at its number (21)
-abbrev pub at-record : ℕ → Result Standing Refusal → Result Standing Refusal
-at-record k (Ok s) = Ok s
-at-record k (Err e) = refused BadRecord k
+abbrev pub at_record : ℕ → Result Standing Refusal → Result Standing Refusal
+at_record k (Ok s) = Ok s
+at_record k (Err e) = refused BadRecord k
 
 -- record k is in exact form, and is carried out
-abbrev pub replayed-one : Meaning → ℕ → List (List ℕ) → ℕ → Standing → Result Standing Refusal
-replayed-one m most h k s = and_then (exact-record k (record-on h k)) (λ x. at-record k (carried m most s x))
+abbrev pub replayed_one : Meaning → ℕ → List (List ℕ) → ℕ → Standing → Result Standing Refusal
+replayed_one m most h k s = and_then (exact_record k (record_on h k)) (λ x. at_record k (carried m most s x))
 
 -- n records from number k on
 abbrev pub replayed : Meaning → ℕ → List (List ℕ) → ℕ → ℕ → Standing → Result Standing Refusal
 replayed m most h zero k s = Ok s
-replayed m most h (suc n) k s = and_then (replayed-one m most h k s) (replayed m most h n (suc k))
+replayed m most h (suc n) k s = and_then (replayed_one m most h k s) (replayed m most h n (suc k))
 
 -- the number of the first block that is not the one expected; the blocks found are numbered from k on
 abbrev pub differing : ℕ → List (List ℕ) → List (List ℕ) → Option ℕ
@@ -45,9 +45,9 @@ first_of (Some k) o = Some k
 first_of None o = o
 
 -- the first item or row block that is not what stands
-abbrev pub differing-block : List (List ℕ) → Standing → Option ℕ
-differing-block h s =
-    first_of (differing 8 (blocks_at h 8 8) (codes-blocks s.items)) (differing 24 (blocks_at h 24 8) (rows-blocks s.rows))
+abbrev pub differing_block : List (List ℕ) → Standing → Option ℕ
+differing_block h s =
+    first_of (differing 8 (blocks_at h 8 8) (blocks_of_codes s.items)) (differing 24 (blocks_at h 24 8) (blocks_of_rows s.rows))
 
 -- a block differs (22)
 abbrev pub compared : ℕ → Option ℕ → Result ℕ Refusal
@@ -55,32 +55,32 @@ compared n None = Ok n
 compared n (Some k) = refused BlockDiffers k
 
 -- a head, of this book, with a count for which there is room (20)
-abbrev pub checked-head : Meaning → ℕ → Option Head → Result Head Refusal
-checked-head m most None = refused BadHead 7
-checked-head m most (Some d) = cond (d.kind == m.kind && nat_le d.count most) (Ok d) (refused BadHead 7)
+abbrev pub checked_head : Meaning → ℕ → Option Head → Result Head Refusal
+checked_head m most None = refused BadHead 7
+checked_head m most (Some d) = cond (d.kind == m.kind && nat_le d.count most) (Ok d) (refused BadHead 7)
 
 -- a valid opening (18)
-abbrev pub checked-opening : Meaning → List ℕ → Result Standing Refusal
-checked-opening m codes = cond (m.valid codes) (Ok (opened codes)) (refused InvalidOpening 0)
+abbrev pub checked_opening : Meaning → List ℕ → Result Standing Refusal
+checked_opening m codes = cond (m.valid codes) (Ok (opened codes)) (refused InvalidOpening 0)
 
 -- the home blocks, on a drive with room for so many records: head, opening, records, items and rows
 abbrev pub judged : Meaning → ℕ → List (List ℕ) → Result ℕ Refusal
 judged m most h =
-    and_then (checked-head m most (head_of (at h 7))) (λ d.
-    and_then (checked-opening m (opening_on h)) (λ s.
+    and_then (checked_head m most (head_of (at h 7))) (λ d.
+    and_then (checked_opening m (opening_on h)) (λ s.
     and_then (replayed m most h d.count 1 s) (λ t.
-    compared d.count (differing-block h t))))
+    compared d.count (differing_block h t))))
 
 -- the size (17), the commit block (19), and then what finishing leaves
 abbrev pub verdict : Meaning → List (List ℕ) → Result ℕ Refusal
 verdict m p =
-    cond (lawful-size (length p))
-    (cond (lawful-commit (length p) (slice_index_or p 0 []))
+    cond (lawful_size (length p))
+    (cond (lawful_commit (length p) (slice_index_or p 0 []))
     (judged m (room (length p)) (home (finished p)))
     (refused BadCommitBlock 0))
     (refused BadSize (length p))
 
 -- the verdict accepts exactly the lawful images, and answers how many records stand
-pub record Accepts-exactly-lawful : Type 0 where
-  pub accepts : (m : Meaning) (p : List (List ℕ)) (l : Lawful-image m p) → verdict m p ≡ Ok l.lawful-home.head.count
-  pub accepted : (m : Meaning) (p : List (List ℕ)) (n : ℕ) → verdict m p ≡ Ok n → Lawful-image m p
+pub record AcceptsExactlyLawful : Type 0 where
+  pub accepts : (m : Meaning) (p : List (List ℕ)) (l : LawfulImage m p) → verdict m p ≡ Ok l.lawful_home.head.count
+  pub accepted : (m : Meaning) (p : List (List ℕ)) (n : ℕ) → verdict m p ≡ Ok n → LawfulImage m p

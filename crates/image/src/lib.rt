@@ -1,6 +1,8 @@
 // The image: what stands on a drive as a whole, when it is lawful, and the verdict on any bytes. The code here reads and
 // compares its parts; judging is the crate above.
-ghost use Rattle.image.specs.Verdict.{Accepts-exactly-lawful};
+#![tactic(auto)]
+
+ghost use Rattle.image.specs.Verdict.{AcceptsExactlyLawful};
 
 mod part;
 mod parts;
@@ -12,7 +14,7 @@ pub use reading::read_part;
 
 /// A theorem: the verdict accepts exactly the lawful images.
 pub fn verdict_accepts_exactly_lawful() -> bool
-    ensures holds { Accepts-exactly-lawful }
+    ensures holds { AcceptsExactlyLawful }
 {
     true
 }

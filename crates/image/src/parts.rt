@@ -1,8 +1,8 @@
 ghost use Rattle.std.specs.Prelude.{◌≡◌};
 ghost use Rattle.std.specs.List.{flat_map};
-ghost use Rattle.layout.specs.Codes.{codes-of};
+ghost use Rattle.layout.specs.Codes.{codes_of};
 ghost use Rattle.layout.specs.Rows.{rows_of};
-ghost use Rattle.image.specs.Home.{codes-blocks, rows-blocks};
+ghost use Rattle.image.specs.Home.{blocks_of_codes, blocks_of_rows};
 ghost use Rattle.image.specs.Parts.{first_block};
 ghost use Rattle.image.specs.Verdict.{differing};
 
@@ -20,7 +20,7 @@ const FREE: Row = Row {
 
 /// The 64 codes that eight blocks hold.
 pub fn codes_in(blocks: &[[u8; 64]; 8]) -> [u64; 64]
-    ensures value { result ≡ flat_map codes-of blocks.now }
+    ensures value { result ≡ flat_map codes_of blocks.now }
 {
     let mut codes = [0; 64];
     for i in 0..8 {
@@ -42,7 +42,7 @@ pub fn rows_in(blocks: &[[u8; 64]; 8]) -> [Row; 32]
 
 /// The eight blocks of 64 codes.
 pub fn codes_blocks(codes: &[u64; 64]) -> [[u8; 64]; 8]
-    ensures value { result ≡ codes-blocks codes.now }
+    ensures value { result ≡ blocks_of_codes codes.now }
 {
     let mut made = [[0; 64]; 8];
     for i in 0..8 {
@@ -55,7 +55,7 @@ pub fn codes_blocks(codes: &[u64; 64]) -> [[u8; 64]; 8]
 
 /// The eight blocks of 32 rows.
 pub fn rows_blocks(rows: &[Row; 32]) -> [[u8; 64]; 8]
-    ensures value { result ≡ rows-blocks rows.now }
+    ensures value { result ≡ blocks_of_rows rows.now }
 {
     let mut made = [[0; 64]; 8];
     for i in 0..8 {

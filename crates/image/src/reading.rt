@@ -1,5 +1,5 @@
 ghost use Rattle.journals.specs.Redo.{home};
-ghost use Rattle.image.specs.Parts.{Reads-part, first_block};
+ghost use Rattle.image.specs.Parts.{ReadsPart, first_block};
 
 use crate::part::Part;
 use drives::{Drive, DriveFault};
@@ -7,7 +7,7 @@ use journals::Journal;
 
 /// The eight blocks of a part.
 pub fn read_part<D: Drive>(journal: &Journal<D>, part: Part) -> Result<[[u8; 64]; 8], DriveFault>
-    ensures reads { Reads-part (D.Drive.disk journal.now.drive) (first_block part) result }
+    ensures reads { ReadsPart (D.disk journal.now.drive) (first_block part) result }
 {
     let first = part.first();
     let mut found = [[0; 64]; 8];

@@ -1,5 +1,5 @@
 -- The redo journal over blocks: block 0 is the commit block, 1 to 6 are the slots, the rest are home blocks.
-use Rattle.std.specs.Prelude.{ℕ, zero, suc, ◌+◌, List, [], drop, set, slice_index_or, slice_set}
+use Rattle.std.specs.Prelude.{ℕ, zero, suc, ◌+◌, List, [], drop, slice_index_or, slice_set}
 use Rattle.changes.specs.Commit.{count_of, number_of}
 
 -- the blocks p with the first n of the contents xs set at the numbers ns

@@ -17,7 +17,7 @@ pub record Stands (d : Disk) (h : List (List ℕ)) : Type 0 where
   pub leaves : h ≡ home (finished choice)
 
 -- h stands, and nothing else
-pub record Stands-alone (d : Disk) (h : List (List ℕ)) : Type 0 where
+pub record StandsAlone (d : Disk) (h : List (List ℕ)) : Type 0 where
   pub stands : Stands d h
   pub alone : (g : List (List ℕ)) → Stands d g → g ≡ h
 
@@ -37,7 +37,7 @@ pub record Ready (d : Disk) : Type 0 where
   pub clear : Clear (present d 0)
 
 -- off, and all that may stand is as P says
-pub record Cut-off (P : List (List ℕ) → Type 0) (d e : Disk) : Type 0 where
+pub record CutOff (P : List (List ℕ) → Type 0) (d e : Disk) : Type 0 where
   pub off : e.on ≡ false
   pub same_size : size e ≡ size d
   pub finishable : Finishable e

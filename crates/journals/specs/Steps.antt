@@ -1,8 +1,8 @@
 -- The eight steps of a change, as what they make of a drive: done, or cut in the middle.
 use Rattle.std.specs.Prelude.{◌≡◌, ℕ, ◌<◌, true, false, ◌⊎◌, List, [], ◌∷◌, slice_index}
 use Rattle.drives.specs.Disk.{Disk, May, size}
-use Rattle.drives.specs.Calls.{Written, Cut-writing, Flushed, Cut}
-use Rattle.changes.specs.Commit.{commit-block, zeros}
+use Rattle.drives.specs.Calls.{Written, CutWriting, Flushed, Cut}
+use Rattle.changes.specs.Commit.{commit_block_of, zeros}
 use Rattle.changes.specs.Plan.{Plan, number, content}
 use Rattle.journals.specs.Redo.{overlay}
 use Rattle.journals.specs.declared.place.Place.{Place}
@@ -20,7 +20,7 @@ pub record Wrote (n : ℕ) (ns : ℕ → ℕ) (xs : ℕ → List ℕ) (d e : Dis
   pub gains : Gains n ns xs d e
 
 -- a run of writes in which power was lost
-pub record Cut-wrote (n : ℕ) (ns : ℕ → ℕ) (xs : ℕ → List ℕ) (d e : Disk) : Type 0 where
+pub record CutWrote (n : ℕ) (ns : ℕ → ℕ) (xs : ℕ → List ℕ) (d e : Disk) : Type 0 where
   pub off : e.on ≡ false
   pub same_size : size e ≡ size d
   pub gains : Gains n ns xs d e
@@ -30,23 +30,23 @@ abbrev pub Puts : ℕ → (ℕ → ℕ) → (ℕ → List ℕ) → Disk → Disk
 Puts n ns xs d e = (m : Disk) × Wrote n ns xs d m × Flushed m e
 
 -- the same, with power lost in a write or in the flush
-abbrev pub Cut-putting : ℕ → (ℕ → ℕ) → (ℕ → List ℕ) → Disk → Disk → Type 0
-Cut-putting n ns xs d e = Cut-wrote n ns xs d e ⊎ ((m : Disk) × Wrote n ns xs d m × Cut m e)
+abbrev pub CutPutting : ℕ → (ℕ → ℕ) → (ℕ → List ℕ) → Disk → Disk → Type 0
+CutPutting n ns xs d e = CutWrote n ns xs d e ⊎ ((m : Disk) × Wrote n ns xs d m × Cut m e)
 
 -- the commit block written and flushed
 abbrev pub Sets : List ℕ → Disk → Disk → Type 0
 Sets c d e = (m : Disk) × Written d 0 c m × Flushed m e
 
 -- the same, with power lost in the write or in the flush
-abbrev pub Cut-setting : List ℕ → Disk → Disk → Type 0
-Cut-setting c d e = Cut-writing d 0 c e ⊎ ((m : Disk) × Written d 0 c m × Cut m e)
+abbrev pub CutSetting : List ℕ → Disk → Disk → Type 0
+CutSetting c d e = CutWriting d 0 c e ⊎ ((m : Disk) × Written d 0 c m × Cut m e)
 
 -- steps 5 to 8: home blocks, flush, a commit block of zeros, flush
 abbrev pub Redoes : ℕ → (ℕ → ℕ) → (ℕ → List ℕ) → Disk → Disk → Type 0
 Redoes n ns xs d e = (m : Disk) × Puts n ns xs d m × Sets zeros m e
 
-abbrev pub Cut-redoing : ℕ → (ℕ → ℕ) → (ℕ → List ℕ) → Disk → Disk → Type 0
-Cut-redoing n ns xs d e = Cut-putting n ns xs d e ⊎ ((m : Disk) × Puts n ns xs d m × Cut-setting zeros m e)
+abbrev pub CutRedoing : ℕ → (ℕ → ℕ) → (ℕ → List ℕ) → Disk → Disk → Type 0
+CutRedoing n ns xs d e = CutPutting n ns xs d e ⊎ ((m : Disk) × Puts n ns xs d m × CutSetting zeros m e)
 
 -- the i-th content goes to slot i, which is block 1 + i
 abbrev pub slot : ℕ → ℕ
@@ -57,18 +57,18 @@ abbrev pub Stages : Plan → Disk → Disk → Type 0
 Stages p d e = Puts p.count slot (content p) d e
 
 abbrev pub Commits : Plan → Disk → Disk → Type 0
-Commits p d e = Sets (commit-block p.count p.numbers) d e
+Commits p d e = Sets (commit_block_of p.count p.numbers) d e
 
 abbrev pub Applies : Plan → Disk → Disk → Type 0
 Applies p d e = Redoes p.count (number p) (content p) d e
 
 -- all eight
-abbrev pub Steps-done : Plan → Disk → Disk → Type 0
-Steps-done p d e = (s t : Disk) × Stages p d s × Commits p s t × Applies p t e
+abbrev pub StepsDone : Plan → Disk → Disk → Type 0
+StepsDone p d e = (s t : Disk) × Stages p d s × Commits p s t × Applies p t e
 
 -- how far the steps had come when power was lost
-abbrev pub Steps-cut : Place → Plan → Disk → Disk → Type 0
-Steps-cut Staging p d e = Cut-putting p.count slot (content p) d e
-Steps-cut Committing p d e = (s : Disk) × Stages p d s × Cut-setting (commit-block p.count p.numbers) s e
-Steps-cut Applying p d e =
-    (s t : Disk) × Stages p d s × Commits p s t × Cut-redoing p.count (number p) (content p) t e
+abbrev pub StepsCut : Place → Plan → Disk → Disk → Type 0
+StepsCut Staging p d e = CutPutting p.count slot (content p) d e
+StepsCut Committing p d e = (s : Disk) × Stages p d s × CutSetting (commit_block_of p.count p.numbers) s e
+StepsCut Applying p d e =
+    (s t : Disk) × Stages p d s × Commits p s t × CutRedoing p.count (number p) (content p) t e

@@ -1,9 +1,9 @@
 ghost use Rattle.std.specs.Prelude.{◌≡◌, ◌<◌, ◌≤◌, true, MatchResult};
 ghost use Rattle.drives.specs.Disk.{present, size as type_size};
 ghost use Rattle.changes.specs.Commit.{Lawful, count_of};
-ghost use Rattle.changes.specs.Plan.{plan-of, last};
-ghost use Rattle.journals.specs.Steps.{Steps-done, Steps-cut};
-ghost use Rattle.journals.specs.Outcomes.{Reads-block, Powers-on, Changes, Finishes, Finished, Cut-finishing};
+ghost use Rattle.changes.specs.Plan.{plan_of, last};
+ghost use Rattle.journals.specs.Steps.{StepsDone, StepsCut};
+ghost use Rattle.journals.specs.Outcomes.{ReadsBlock, PowersOn, Changes, Finishes, Finished, CutFinishing};
 ghost use Rattle.journals.specs.declared.journal.FinishFault.TheVariants as finish-fault;
 
 use crate::place::Place;
@@ -41,9 +41,9 @@ pub struct Journal<D> {
 
 /// The eight steps of a change.
 fn make<D: Drive>(drive: &mut D, change: &Change) -> Result<(), Place>
-    requires on { (disk drive.old).on ≡ true }
-    requires within { last (plan-of change.now) < type_size (disk drive.old) }
-    ensures steps { MatchResult result (λ _. Steps-done (plan-of change.now) (disk drive.old) (disk drive.new)) (λ p. Steps-cut p (plan-of change.now) (disk drive.old) (disk drive.new)) }
+    requires on { (D.disk drive.old).on ≡ true }
+    requires within { last (plan_of change.now) < type_size (D.disk drive.old) }
+    ensures steps { MatchResult result (λ _. StepsDone (plan_of change.now) (D.disk drive.old) (D.disk drive.new)) (λ p. StepsCut p (plan_of change.now) (D.disk drive.old) (D.disk drive.new)) }
 {
     let count = change.len();
     if let Err(_) = steps::stage(drive, change.contents(), count) {
@@ -68,21 +68,21 @@ impl<D: Drive> Journal<D> {
 
     /// How many blocks the drive has.
     pub fn size(&self) -> u64
-        ensures value { result ≡ type_size (D.Drive.disk self.now.drive) }
+        ensures value { result ≡ type_size (D.disk self.now.drive) }
     {
         D::size(&self.drive)
     }
 
     /// Whether there is power.
     pub fn is_on(&self) -> bool
-        ensures value { result ≡ (D.Drive.disk self.now.drive).on }
+        ensures value { result ≡ (D.disk self.now.drive).on }
     {
         D::is_on(&self.drive)
     }
 
     /// What a block holds.
     pub fn read(&self, block: u64) -> Result<[u8; 64], DriveFault>
-        ensures reads { Reads-block (D.Drive.disk self.now.drive) block result }
+        ensures reads { ReadsBlock (D.disk self.now.drive) block result }
     {
         let mut buffer = [0; 64];
         self.drive.read(block, &mut buffer)?;
@@ -91,14 +91,14 @@ impl<D: Drive> Journal<D> {
 
     /// Turns power off and on again.
     pub fn power(&mut self) -> Result<(), DriveFault>
-        ensures powers { Powers-on (D.Drive.disk self.old.drive) result (D.Drive.disk self.new.drive) }
+        ensures powers { PowersOn (D.disk self.old.drive) result (D.disk self.new.drive) }
     {
         self.drive.power()
     }
 
     /// Makes a change, whole or not at all.
     pub fn change(&mut self, change: &Change) -> Result<(), ChangeFault>
-        ensures changes { Changes (D.Drive.disk self.old.drive) (plan-of change.now) result (D.Drive.disk self.new.drive) }
+        ensures changes { Changes (D.disk self.old.drive) (plan_of change.now) result (D.disk self.new.drive) }
     {
         if !self.drive.is_on() {
             return Err(ChangeFault::Off);
@@ -114,7 +114,7 @@ impl<D: Drive> Journal<D> {
 
     /// Finishes what the commit block names, or does nothing where it names nothing.
     pub fn finish(&mut self) -> Result<(), FinishFault>
-        ensures finishes { Finishes (D.Drive.disk self.old.drive) result (D.Drive.disk self.new.drive) }
+        ensures finishes { Finishes (D.disk self.old.drive) result (D.disk self.new.drive) }
     {
         if !self.drive.is_on() {
             return Err(FinishFault::Off);
@@ -135,12 +135,12 @@ impl<D: Drive> Journal<D> {
 
     /// Carries home what a commit block that names some blocks names.
     fn finish_named(&mut self, commit: &[u8; 64], count: usize) -> Result<(), FinishFault>
-        requires on { (D.Drive.disk self.old.drive).on ≡ true }
-        requires reads { commit.now ≡ present (D.Drive.disk self.old.drive) 0 }
-        requires lawful { Lawful (type_size (D.Drive.disk self.old.drive)) commit.now }
+        requires on { (D.disk self.old.drive).on ≡ true }
+        requires reads { commit.now ≡ present (D.disk self.old.drive) 0 }
+        requires lawful { Lawful (type_size (D.disk self.old.drive)) commit.now }
         requires counts { count ≡ count_of commit.now }
         requires some { 1 ≤ count }
-        ensures met { MatchResult result (λ _. Finished (D.Drive.disk self.old.drive) (D.Drive.disk self.new.drive)) (λ e. (e ≡ finish-fault.PowerLost) × Cut-finishing (D.Drive.disk self.old.drive) (D.Drive.disk self.new.drive)) }
+        ensures met { MatchResult result (λ _. Finished (D.disk self.old.drive) (D.disk self.new.drive)) (λ e. (e ≡ finish-fault.PowerLost) × CutFinishing (D.disk self.old.drive) (D.disk self.new.drive)) }
     {
         let mut numbers = [0; 6];
         for i in 0..6 {

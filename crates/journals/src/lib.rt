@@ -1,5 +1,7 @@
 // A redo journal over any drive: a change of up to six home blocks stands whole or not at all, whatever power does and
 // in whatever order the drive keeps its writes. Block 0 is the commit block, 1 to 6 are slots, the rest home blocks.
+#![tactic(auto)]
+
 mod journal;
 mod place;
 mod steps;

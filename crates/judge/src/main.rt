@@ -1,5 +1,7 @@
 // `judge`: takes images of drives as files, finishes each in memory, and prints the verdict: accepted, with its count and
 // its audit, or the refusal with number, layer and place. The files are only read.
+#![tactic(auto)]
+
 use books::Book;
 use drives::Drive;
 use journals::Journal;

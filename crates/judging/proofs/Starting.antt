@@ -1,120 +1,120 @@
 -- Inspecting a drive: power, finishing, and the verdict on what they leave.
-use Rattle.std.proofs.Common.{◌≡◌, ℕ, ◌<◌, ◌≤◌, Bool, true, false, cond, ◌&&◌, leb, ◌⊎◌, List, [], length, get_or, Ok, Err, Result, sym, refl, ap, ◌∙◌, subst, inl, inr, arith}
-use Rattle.std.proofs.lemmas.Bool.{and_parts, and_from, leb-true, le-leb, both_ways, cases_Bool, cond-true, cond-false}
+use Rattle.std.proofs.Common.{◌≡◌, ℕ, ◌<◌, ◌≤◌, Bool, true, false, cond, leb, ◌⊎◌, Ok, Err, Result, sym, ap, ◌∙◌, inl, inr, arith}
+use Rattle.std.proofs.lemmas.Bool.{and_parts, and_from, leb-true, le-leb, both_ways, cases_Bool, cond-true}
 use Rattle.std.proofs.lemmas.Bool.Decides.{not_from_Decides}
 use Rattle.refusals.specs.declared.power_place.PowerPlace.TheVariants.{Starting}
-use Rattle.refusals.specs.declared.reasons.Reason.TheVariants.{PowerLost, BadSize, BadCommitBlock}
+use Rattle.refusals.specs.declared.reasons.Reason.TheVariants.{PowerLost, BadCommitBlock}
 use Rattle.refusals.specs.declared.refusal.Refusal.{Refusal}
-use Rattle.refusals.specs.Places.{power-place}
+use Rattle.refusals.specs.Places.{power_place_number}
 use Rattle.refusals.specs.Refused.{refused}
 use Rattle.books.specs.Meaning.{Meaning}
 use Rattle.drives.specs.declared.DriveFault.{DriveFault}
 use Rattle.drives.specs.Disk.{Disk, present, size}
-use Rattle.changes.specs.Commit.{Lawful, lawful-commit}
-use Rattle.changes.proofs.Testing.{lawful-decides}
+use Rattle.changes.specs.Commit.{Lawful, lawful_commit}
+use Rattle.changes.proofs.Testing.{lawful_decides}
 use Rattle.journals.specs.declared.journal.FinishFault.{FinishFault}
 use Rattle.journals.specs.declared.journal.FinishFault.TheVariants as fault
-use Rattle.journals.specs.Outcomes.{Powers-on, Finishes}
+use Rattle.journals.specs.Outcomes.{PowersOn, Finishes}
 use Rattle.journals.specs.Redo.{finished, home}
-use Rattle.journals.proofs.Reading.{not-ok}
-use Rattle.image.specs.Lawful.{lawful-size, room}
+use Rattle.journals.proofs.Reading.{not_ok}
+use Rattle.image.specs.Lawful.{lawful_size, room}
 use Rattle.image.specs.Verdict.{judged, verdict}
-use Rattle.judging.specs.Inspects.{Inspects, Lost-powering, Lost-finishing, Unlawful-commit, Judged, Powered-on, unfinished-for}
+use Rattle.judging.specs.Inspects.{Inspects, LostFinishing, UnlawfulCommit, Judged, unfinished_for}
 
 -- a lawful size has more than 34 blocks
-pub lawful-wide : (n : ℕ) → lawful-size n ≡ true → 34 < n
-lawful-wide n e = leb-true 35 n (and_parts (leb 35 n) (leb n 1024) e).0
+pub lawful_wide : (n : ℕ) → lawful_size n ≡ true → 34 < n
+lawful_wide n e = leb-true 35 n (and_parts (leb 35 n) (leb n 1024) e).0
 
-pub size-lawful : (n k : ℕ) → n ≡ k → 35 ≤ n → n ≤ 1024 → lawful-size k ≡ true
-size-lawful n k e low high = and_from _ _ (le-leb 35 k (omega arith)) (le-leb k 1024 (omega arith))
+pub size_lawful : (n k : ℕ) → n ≡ k → 35 ≤ n → n ≤ 1024 → lawful_size k ≡ true
+size_lawful n k e low high = and_from _ _ (le-leb 35 k (omega arith)) (le-leb k 1024 (omega arith))
 
-same-fault : (x y : FinishFault) → ◌≡◌ {A = Result (Unit {0}) FinishFault} (Err x) (Err y) → x ≡ y
-same-fault x y e = cc
+same_fault : (x y : FinishFault) → ◌≡◌ {A = Result (Unit {0}) FinishFault} (Err x) (Err y) → x ≡ y
+same_fault x y e = cc
 
-module _ (m : Meaning) (d p e : Disk) (fits : lawful-size (size d) ≡ true) (powers : Powers-on d (Ok tt) p) where
+module _ (m : Meaning) (d p e : Disk) (fits : lawful_size (size d) ≡ true) (powers : PowersOn d (Ok tt) p) where
   -- the power call leaves power on, and the size as it was
   same_size : size p ≡ size d
   same_size = powers.met.same_size
 
   wide : 7 ≤ size p
-  wide = omega (arith, lawful-wide (size d) fits, same_size)
+  wide = omega (arith, lawful_wide (size d) fits, same_size)
 
-  left-lawful : lawful-size (size p) ≡ true
-  left-lawful = ap lawful-size same_size ∙ fits
+  left_lawful : lawful_size (size p) ≡ true
+  left_lawful = ap lawful_size same_size ∙ fits
 
   -- an inspection that came so far
-  inspected : (r : Result ℕ Refusal) → Lost-finishing p r e ⊎ (Unlawful-commit m p r e ⊎ Judged m p r e) → Inspects m d r e
+  inspected : (r : Result ℕ Refusal) → LostFinishing p r e ⊎ (UnlawfulCommit m p r e ⊎ Judged m p r e) → Inspects m d r e
   inspected r o =
       record {
-        refused-size = λ f. absurd (both_ways _ f fits);
+        refused_size = λ f. absurd (both_ways _ f fits);
         met = λ _. inr (record { left = p; powered = powers.met; stood = powers.stands; outcome = o });
       }
 
   -- the verdict, once the commit block is tested
-  verdict-by : (t : Bool) → lawful-commit (size p) (present p 0) ≡ t → verdict m p.blocks ≡ cond t (judged m (room (size p)) (home (finished p.blocks))) (refused BadCommitBlock 0)
-  verdict-by t c =
-      cond-true (lawful-size (size p)) _ _ left-lawful
+  verdict_by : (t : Bool) → lawful_commit (size p) (present p 0) ≡ t → verdict m p.blocks ≡ cond t (judged m (room (size p)) (home (finished p.blocks))) (refused BadCommitBlock 0)
+  verdict_by t c =
+      cond-true (lawful_size (size p)) _ _ left_lawful
       ∙ ap (λ z. cond z (judged m (room (size p)) (home (finished p.blocks))) (refused BadCommitBlock 0)) c
 
   module _ (f : Result (Unit {0}) FinishFault) (finishes : Finishes p f e) where
     -- what finishing answers to an unlawful commit block, and to a lawful one
-    unlawful-says : (Lawful (size p) (present p 0) → ⊥) → (f ≡ Err fault.Unlawful) × (e ≡ p)
-    unlawful-says u = finishes.refused-unlawful powers.met.on u
+    unlawful_says : (Lawful (size p) (present p 0) → ⊥) → (f ≡ Err fault.Unlawful) × (e ≡ p)
+    unlawful_says u = finishes.refused_unlawful powers.met.on u
 
   different : (x : FinishFault) → (◌≡◌ {A = Result (Unit {0}) FinishFault} (Ok tt) (Err x)) → ⊥
-  different x q = not-ok tt x q
+  different x q = not_ok tt x q
 
   -- a drive that was finished is on, and as large as it was
-  pub finished_on : Finishes p (Ok tt) e → (e.on ≡ true) × (lawful-size (size e) ≡ true)
+  pub finished_on : Finishes p (Ok tt) e → (e.on ≡ true) × (lawful_size (size e) ≡ true)
   finished_on f =
-      elim (cases_Bool (lawful-commit (size p) (present p 0))) [
-        | inr n ↦ absurd (different fault.Unlawful (unlawful-says (Ok tt) f (not_from_Decides _ (lawful-decides (size p) (present p 0)) n)).0)
+      elim (cases_Bool (lawful_commit (size p) (present p 0))) [
+        | inr n ↦ absurd (different fault.Unlawful (unlawful_says (Ok tt) f (not_from_Decides _ (lawful_decides (size p) (present p 0)) n)).0)
         | inl y ↦ (
-            let done = f.met powers.met.on wide ((lawful-decides (size p) (present p 0)).0 y) in
-            ((done.ready powers.met.settled).on, ap lawful-size done.same_size ∙ left-lawful))
+            let done = f.met powers.met.on wide ((lawful_decides (size p) (present p 0)).0 y) in
+            ((done.ready powers.met.settled).on, ap lawful_size done.same_size ∙ left_lawful))
       ]
 
-  pub inspect-judged : (r : Result ℕ Refusal) → Finishes p (Ok tt) e → r ≡ judged m (room (size e)) (home e.blocks) → Inspects m d r e
-  inspect-judged r f a =
-      elim (cases_Bool (lawful-commit (size p) (present p 0))) [
-        | inr n ↦ absurd (different fault.Unlawful (unlawful-says (Ok tt) f (not_from_Decides _ (lawful-decides (size p) (present p 0)) n)).0)
+  pub inspect_judged : (r : Result ℕ Refusal) → Finishes p (Ok tt) e → r ≡ judged m (room (size e)) (home e.blocks) → Inspects m d r e
+  inspect_judged r f a =
+      elim (cases_Bool (lawful_commit (size p) (present p 0))) [
+        | inr n ↦ absurd (different fault.Unlawful (unlawful_says (Ok tt) f (not_from_Decides _ (lawful_decides (size p) (present p 0)) n)).0)
         | inl y ↦ (
-            let lawful = (lawful-decides (size p) (present p 0)).0 y in
+            let lawful = (lawful_decides (size p) (present p 0)).0 y in
             let done = f.met powers.met.on wide lawful in
             inspected r (inr (inr (record {
-              answer = a ∙ ap (λ z. judged m (room z) (home e.blocks)) done.same_size ∙ ap (judged m (room (size p))) done.home-now ∙ sym (verdict-by true y);
+              answer = a ∙ ap (λ z. judged m (room z) (home e.blocks)) done.same_size ∙ ap (judged m (room (size p))) done.home_now ∙ sym (verdict_by true y);
               lawful = lawful;
               finished = done;
             }))))
       ]
 
-  inspect-unlawful : (r : Result ℕ Refusal) → Finishes p (Err fault.Unlawful) e → r ≡ refused BadCommitBlock 0 → Inspects m d r e
-  inspect-unlawful r f a =
-      elim (cases_Bool (lawful-commit (size p) (present p 0))) [
+  inspect_unlawful : (r : Result ℕ Refusal) → Finishes p (Err fault.Unlawful) e → r ≡ refused BadCommitBlock 0 → Inspects m d r e
+  inspect_unlawful r f a =
+      elim (cases_Bool (lawful_commit (size p) (present p 0))) [
         | inr n ↦ (
-            let u = not_from_Decides _ (lawful-decides (size p) (present p 0)) n in
-            inspected r (inr (inl (record { answer = a ∙ sym (verdict-by false n); unlawful = u; same = (unlawful-says (Err fault.Unlawful) f u).1 }))))
-        | inl y ↦ absurd (let q = (f.met powers.met.on wide ((lawful-decides (size p) (present p 0)).0 y)).0 in let z : ◌≡◌ {A = ℕ} 0 1 = cc in omega arith)
+            let u = not_from_Decides _ (lawful_decides (size p) (present p 0)) n in
+            inspected r (inr (inl (record { answer = a ∙ sym (verdict_by false n); unlawful = u; same = (unlawful_says (Err fault.Unlawful) f u).1 }))))
+        | inl y ↦ absurd (let q = (f.met powers.met.on wide ((lawful_decides (size p) (present p 0)).0 y)).0 in let z : ◌≡◌ {A = ℕ} 0 1 = cc in omega arith)
       ]
 
-  inspect-lost : (r : Result ℕ Refusal) (x : FinishFault) → (x ≡ fault.Unlawful → ⊥) → Finishes p (Err x) e → r ≡ refused PowerLost (power-place Starting) → Inspects m d r e
-  inspect-lost r x nu f a =
-      elim (cases_Bool (lawful-commit (size p) (present p 0))) [
-        | inr n ↦ absurd (nu (same-fault x fault.Unlawful (unlawful-says (Err x) f (not_from_Decides _ (lawful-decides (size p) (present p 0)) n)).0))
+  inspect_lost : (r : Result ℕ Refusal) (x : FinishFault) → (x ≡ fault.Unlawful → ⊥) → Finishes p (Err x) e → r ≡ refused PowerLost (power_place_number Starting) → Inspects m d r e
+  inspect_lost r x nu f a =
+      elim (cases_Bool (lawful_commit (size p) (present p 0))) [
+        | inr n ↦ absurd (nu (same_fault x fault.Unlawful (unlawful_says (Err x) f (not_from_Decides _ (lawful_decides (size p) (present p 0)) n)).0))
         | inl y ↦ (
-            let lawful = (lawful-decides (size p) (present p 0)).0 y in
+            let lawful = (lawful_decides (size p) (present p 0)).0 y in
             inspected r (inl (record { answer = a; lawful = lawful; cut = (f.met powers.met.on wide lawful).1 })))
       ]
 
-  pub inspect-unfinished : (r : Result ℕ Refusal) (x : FinishFault) → Finishes p (Err x) e → r ≡ unfinished-for x → Inspects m d r e
-  inspect-unfinished r fault.Off f a = inspect-lost r fault.Off (λ q. (let z : ◌≡◌ {A = ℕ} 0 1 = cc in omega arith)) f a
-  inspect-unfinished r fault.Unlawful f a = inspect-unlawful r f a
-  inspect-unfinished r fault.PowerLost f a = inspect-lost r fault.PowerLost (λ q. (let z : ◌≡◌ {A = ℕ} 0 1 = cc in omega arith)) f a
+  pub inspect_unfinished : (r : Result ℕ Refusal) (x : FinishFault) → Finishes p (Err x) e → r ≡ unfinished_for x → Inspects m d r e
+  inspect_unfinished r fault.Off f a = inspect_lost r fault.Off (λ q. (let z : ◌≡◌ {A = ℕ} 0 1 = cc in omega arith)) f a
+  inspect_unfinished r fault.Unlawful f a = inspect_unlawful r f a
+  inspect_unfinished r fault.PowerLost f a = inspect_lost r fault.PowerLost (λ q. (let z : ◌≡◌ {A = ℕ} 0 1 = cc in omega arith)) f a
 
 -- power was lost at once
-pub inspect-dark : (m : Meaning) (d e : Disk) (r : Result ℕ Refusal) (x : DriveFault) → lawful-size (size d) ≡ true → Powers-on d (Err x) e → r ≡ refused PowerLost (power-place Starting) → Inspects m d r e
-inspect-dark m d e r x fits p a =
+pub inspect_dark : (m : Meaning) (d e : Disk) (r : Result ℕ Refusal) (x : DriveFault) → lawful_size (size d) ≡ true → PowersOn d (Err x) e → r ≡ refused PowerLost (power_place_number Starting) → Inspects m d r e
+inspect_dark m d e r x fits p a =
     record {
-      refused-size = λ f. absurd (both_ways _ f fits);
-      met = λ _. inl (record { answer = a; cut = p.met.1; adds-nothing = p.stands });
+      refused_size = λ f. absurd (both_ways _ f fits);
+      met = λ _. inl (record { answer = a; cut = p.met.1; adds_nothing = p.stands });
     }

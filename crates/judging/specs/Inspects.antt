@@ -3,7 +3,7 @@ use Rattle.std.specs.Prelude.{◌≡◌, ℕ, true, false, ◌⊎◌, Result}
 use Rattle.refusals.specs.declared.power_place.PowerPlace.TheVariants.{Starting}
 use Rattle.refusals.specs.declared.reasons.Reason.TheVariants.{PowerLost, BadSize, BadCommitBlock}
 use Rattle.refusals.specs.declared.refusal.Refusal.{Refusal}
-use Rattle.refusals.specs.Places.{power-place}
+use Rattle.refusals.specs.Places.{power_place_number}
 use Rattle.refusals.specs.Refused.{refused}
 use Rattle.books.specs.Meaning.{Meaning}
 use Rattle.drives.specs.Disk.{Disk, present, size}
@@ -11,30 +11,30 @@ use Rattle.drives.specs.Calls.{Powered, Cut}
 use Rattle.changes.specs.Commit.{Lawful}
 use Rattle.journals.specs.declared.journal.FinishFault.{FinishFault}
 use Rattle.journals.specs.declared.journal.FinishFault.TheVariants as fault
-use Rattle.journals.specs.Outcomes.{Stood, Adds-nothing, Finished, Cut-finishing}
-use Rattle.image.specs.Lawful.{lawful-size}
+use Rattle.journals.specs.Outcomes.{Stood, AddsNothing, Finished, CutFinishing}
+use Rattle.image.specs.Lawful.{lawful_size}
 use Rattle.image.specs.Verdict.{verdict}
 
 -- the refusal where finishing did not end
-abbrev pub unfinished-for : FinishFault → Result ℕ Refusal
-unfinished-for fault.Off = refused PowerLost (power-place Starting)
-unfinished-for fault.Unlawful = refused BadCommitBlock 0
-unfinished-for fault.PowerLost = refused PowerLost (power-place Starting)
+abbrev pub unfinished_for : FinishFault → Result ℕ Refusal
+unfinished_for fault.Off = refused PowerLost (power_place_number Starting)
+unfinished_for fault.Unlawful = refused BadCommitBlock 0
+unfinished_for fault.PowerLost = refused PowerLost (power_place_number Starting)
 
 -- power was lost in the power call: nothing was added to what may stand
-pub record Lost-powering (d : Disk) (r : Result ℕ Refusal) (e : Disk) : Type 0 where
-  pub answer : r ≡ refused PowerLost (power-place Starting)
+pub record LostPowering (d : Disk) (r : Result ℕ Refusal) (e : Disk) : Type 0 where
+  pub answer : r ≡ refused PowerLost (power_place_number Starting)
   pub cut : Cut d e
-  pub adds-nothing : Adds-nothing d e
+  pub adds_nothing : AddsNothing d e
 
 -- power was lost in finishing
-pub record Lost-finishing (p : Disk) (r : Result ℕ Refusal) (e : Disk) : Type 0 where
-  pub answer : r ≡ refused PowerLost (power-place Starting)
+pub record LostFinishing (p : Disk) (r : Result ℕ Refusal) (e : Disk) : Type 0 where
+  pub answer : r ≡ refused PowerLost (power_place_number Starting)
   pub lawful : Lawful (size p) (present p 0)
-  pub cut : Cut-finishing p e
+  pub cut : CutFinishing p e
 
 -- the commit block is not lawful: nothing was finished
-pub record Unlawful-commit (m : Meaning) (p : Disk) (r : Result ℕ Refusal) (e : Disk) : Type 0 where
+pub record UnlawfulCommit (m : Meaning) (p : Disk) (r : Result ℕ Refusal) (e : Disk) : Type 0 where
   pub answer : r ≡ verdict m p.blocks
   pub unlawful : Lawful (size p) (present p 0) → ⊥
   pub same : e ≡ p
@@ -46,12 +46,12 @@ pub record Judged (m : Meaning) (p : Disk) (r : Result ℕ Refusal) (e : Disk) :
   pub finished : Finished p e
 
 -- after a power call that was done
-pub record Powered-on (m : Meaning) (d : Disk) (r : Result ℕ Refusal) (e : Disk) : Type 0 where
+pub record PoweredOn (m : Meaning) (d : Disk) (r : Result ℕ Refusal) (e : Disk) : Type 0 where
   pub left : Disk
   pub powered : Powered d left
   pub stood : Stood d left
-  pub outcome : Lost-finishing left r e ⊎ (Unlawful-commit m left r e ⊎ Judged m left r e)
+  pub outcome : LostFinishing left r e ⊎ (UnlawfulCommit m left r e ⊎ Judged m left r e)
 
 pub record Inspects (m : Meaning) (d : Disk) (r : Result ℕ Refusal) (e : Disk) : Type 0 where
-  pub refused-size : lawful-size (size d) ≡ false → (r ≡ refused BadSize (size d)) × (e ≡ d)
-  pub met : lawful-size (size d) ≡ true → Lost-powering d r e ⊎ Powered-on m d r e
+  pub refused_size : lawful_size (size d) ≡ false → (r ≡ refused BadSize (size d)) × (e ≡ d)
+  pub met : lawful_size (size d) ≡ true → LostPowering d r e ⊎ PoweredOn m d r e

@@ -3,11 +3,11 @@ ghost use Rattle.std.specs.Prelude.{◌≡◌, ◌&&◌, Ok, Err, MatchResult, �
 ghost use Rattle.std.specs.List.{flat_map};
 ghost use Rattle.refusals.specs.Refused.{and_then};
 ghost use Rattle.records.specs.Form.{decoded};
-ghost use Rattle.layout.specs.Codes.{codes-of};
+ghost use Rattle.layout.specs.Codes.{codes_of};
 ghost use Rattle.layout.specs.Head.{head_of};
-ghost use Rattle.carrying.specs.Standing.{standing-of};
+ghost use Rattle.carrying.specs.Standing.{standing_of};
 ghost use Rattle.carrying.specs.Carried.{carried};
-ghost use Rattle.image.specs.Verdict.{checked-head, checked-opening, exact-record, at-record};
+ghost use Rattle.image.specs.Verdict.{checked_head, checked_opening, exact_record, at_record};
 
 use books::Book;
 use carrying::{Held, carry_out};
@@ -27,14 +27,14 @@ const FREE: Row = Row {
 
 /// Whether a head is this book's and has a count for which there is room.
 fn is_own<B: Book>(book: &B, room: u64, head: Head) -> bool
-    ensures value { result ≡ (head.kind == B.Book.meaning.kind && nat_le head.count room) }
+    ensures value { result ≡ (head.kind == B.meaning.kind && nat_le head.count room) }
 {
     head.kind == book.kind_number() && u64::from(head.count) <= room
 }
 
 /// The head, if it is this book's and has a count for which there is room.
 pub(crate) fn check_head<B: Book>(book: &B, room: u64, block: &[u8; 64]) -> Result<Head, Refusal>
-    ensures value { result ≡ checked-head B.Book.meaning room (head_of block.now) }
+    ensures value { result ≡ checked_head B.meaning room (head_of block.now) }
 {
     let Some(head) = read_head(block) else {
         return Err(Refusal::at(Reason::BadHead, 7));
@@ -48,7 +48,7 @@ pub(crate) fn check_head<B: Book>(book: &B, room: u64, block: &[u8; 64]) -> Resu
 
 /// The books as they were opened, if the opening is valid.
 pub(crate) fn check_opening<B: Book>(book: &B, blocks: &[[u8; 64]; 8]) -> Result<Held, Refusal>
-    ensures value { MatchResult result (λ h. checked-opening B.Book.meaning (flat_map codes-of blocks.now) ≡ Ok (standing-of h)) (λ e. checked-opening B.Book.meaning (flat_map codes-of blocks.now) ≡ Err e) }
+    ensures value { MatchResult result (λ h. checked_opening B.meaning (flat_map codes_of blocks.now) ≡ Ok (standing_of h)) (λ e. checked_opening B.meaning (flat_map codes_of blocks.now) ≡ Err e) }
 {
     let items = codes_in(blocks);
     if !book.verify(&items) {
@@ -63,7 +63,7 @@ pub(crate) fn check_opening<B: Book>(book: &B, blocks: &[[u8; 64]; 8]) -> Result
 
 /// The record that a block holds in exact form with its number.
 fn check_record(number: u32, block: &[u8; 64]) -> Result<Record, Refusal>
-    ensures value { result ≡ exact-record number (decoded number block.now) }
+    ensures value { result ≡ exact_record number (decoded number block.now) }
 {
     match decode(block, number) {
         Some(entry) => Ok(entry),
@@ -79,7 +79,7 @@ pub(crate) fn replay_block<B: Book>(
     number: u32,
     block: &[u8; 64],
 ) -> Result<(), Refusal>
-    ensures value { MatchResult result (λ _. and_then (exact-record number (decoded number block.now)) (λ x. at-record number (carried B.Book.meaning room (standing-of held.old) x)) ≡ Ok (standing-of held.new)) (λ e. and_then (exact-record number (decoded number block.now)) (λ x. at-record number (carried B.Book.meaning room (standing-of held.old) x)) ≡ Err e) }
+    ensures value { MatchResult result (λ _. and_then (exact_record number (decoded number block.now)) (λ x. at_record number (carried B.meaning room (standing_of held.old) x)) ≡ Ok (standing_of held.new)) (λ e. and_then (exact_record number (decoded number block.now)) (λ x. at_record number (carried B.meaning room (standing_of held.old) x)) ≡ Err e) }
 {
     let entry = check_record(number, block)?;
     match carry_out(book, room, held, entry) {

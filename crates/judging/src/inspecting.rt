@@ -1,5 +1,5 @@
 ghost use Rattle.std.specs.Prelude.{◌≡◌, Err};
-ghost use Rattle.judging.specs.Inspects.{Inspects, unfinished-for};
+ghost use Rattle.judging.specs.Inspects.{Inspects, unfinished_for};
 
 use crate::judge::{judge, power_lost};
 use books::Book;
@@ -9,7 +9,7 @@ use refusals::{Reason, Refusal};
 
 /// The refusal where finishing did not end.
 fn unfinished(fault: FinishFault) -> Refusal
-    ensures value { Err result ≡ unfinished-for fault }
+    ensures value { Err result ≡ unfinished_for fault }
 {
     match fault {
         FinishFault::Unlawful => Refusal::at(Reason::BadCommitBlock, 0),
@@ -20,7 +20,7 @@ fn unfinished(fault: FinishFault) -> Refusal
 /// Turns power on, finishes what was cut, and judges what stands then: the record count, or the first refusal that the
 /// image earns.
 pub fn inspect<D: Drive, B: Book>(journal: &mut Journal<D>, book: &B) -> Result<u64, Refusal>
-    ensures inspects { Inspects B.Book.meaning (D.Drive.disk journal.old.drive) result (D.Drive.disk journal.new.drive) }
+    ensures inspects { Inspects B.meaning (D.disk journal.old.drive) result (D.disk journal.new.drive) }
 {
     let size = journal.size();
     if size < 35 || size > 1024 {

@@ -1,15 +1,15 @@
 ghost use Rattle.std.specs.Prelude.{◌≡◌, ℕ, ◌+◌, ◌<◌, ◌≤◌, true, Ok, Err, MatchResult};
 ghost use Rattle.refusals.specs.declared.reasons.Reason.TheVariants as reason;
 ghost use Rattle.refusals.specs.declared.power_place.PowerPlace.TheVariants as place;
-ghost use Rattle.refusals.specs.Places.{power-place};
+ghost use Rattle.refusals.specs.Places.{power_place_number};
 ghost use Rattle.refusals.specs.Refused.{refused};
 ghost use Rattle.drives.specs.Disk.{size};
 ghost use Rattle.journals.specs.Redo.{home};
-ghost use Rattle.carrying.specs.Standing.{standing-of};
+ghost use Rattle.carrying.specs.Standing.{standing_of};
 ghost use Rattle.image.specs.Home.{at, blocks_at};
-ghost use Rattle.image.specs.Lawful.{lawful-size, room as room-on};
+ghost use Rattle.image.specs.Lawful.{lawful_size, room as room-on};
 ghost use Rattle.image.specs.Parts.{first_block};
-ghost use Rattle.image.specs.Verdict.{replayed, compared, differing-block, judged};
+ghost use Rattle.image.specs.Verdict.{replayed, compared, differing_block, judged};
 
 use crate::blocks::{check_head, check_opening, replay_block};
 use books::Book;
@@ -21,17 +21,17 @@ use refusals::{PowerPlace, Reason, Refusal};
 
 /// Power was lost while the drive was started.
 pub(crate) fn power_lost() -> Refusal
-    ensures value { Err result ≡ refused {X = ℕ} reason.PowerLost (power-place place.Starting) }
+    ensures value { Err result ≡ refused {X = ℕ} reason.PowerLost (power_place_number place.Starting) }
 {
     Refusal::at(Reason::PowerLost, PowerPlace::Starting.place())
 }
 
 /// What a home block holds, on a drive that is on and has it.
 fn read_home<D: Drive>(journal: &Journal<D>, block: u64) -> Result<[u8; 64], Refusal>
-    requires on { (D.Drive.disk journal.now.drive).on ≡ true }
+    requires on { (D.disk journal.now.drive).on ≡ true }
     requires low { 7 ≤ block }
-    requires within { block < size (D.Drive.disk journal.now.drive) }
-    ensures found { MatchResult result (λ x. x ≡ at (home (D.Drive.disk journal.now.drive).blocks) block) (λ _. ⊥) }
+    requires within { block < size (D.disk journal.now.drive) }
+    ensures found { MatchResult result (λ x. x ≡ at (home (D.disk journal.now.drive).blocks) block) (λ _. ⊥) }
 {
     match journal.read(block) {
         Ok(content) => Ok(content),
@@ -41,9 +41,9 @@ fn read_home<D: Drive>(journal: &Journal<D>, block: u64) -> Result<[u8; 64], Ref
 
 /// What a part of the image holds, on a drive that is on and has it.
 fn read_blocks<D: Drive>(journal: &Journal<D>, part: Part) -> Result<[[u8; 64]; 8], Refusal>
-    requires on { (D.Drive.disk journal.now.drive).on ≡ true }
-    requires wide { 34 < size (D.Drive.disk journal.now.drive) }
-    ensures found { MatchResult result (λ xs. xs ≡ blocks_at (home (D.Drive.disk journal.now.drive).blocks) (first_block part) 8) (λ _. ⊥) }
+    requires on { (D.disk journal.now.drive).on ≡ true }
+    requires wide { 34 < size (D.disk journal.now.drive) }
+    ensures found { MatchResult result (λ xs. xs ≡ blocks_at (home (D.disk journal.now.drive).blocks) (first_block part) 8) (λ _. ⊥) }
 {
     match read_part(journal, part) {
         Ok(contents) => Ok(contents),
@@ -59,9 +59,9 @@ fn replay<D: Drive, B: Book>(
     held: &mut Held,
     count: u32,
 ) -> Result<(), Refusal>
-    requires on { (D.Drive.disk journal.now.drive).on ≡ true }
-    requires within { 33 + count < size (D.Drive.disk journal.now.drive) }
-    ensures value { MatchResult result (λ _. replayed B.Book.meaning room (home (D.Drive.disk journal.now.drive).blocks) count 1 (standing-of held.old) ≡ Ok (standing-of held.new)) (λ e. replayed B.Book.meaning room (home (D.Drive.disk journal.now.drive).blocks) count 1 (standing-of held.old) ≡ Err e) }
+    requires on { (D.disk journal.now.drive).on ≡ true }
+    requires within { 33 + count < size (D.disk journal.now.drive) }
+    ensures value { MatchResult result (λ _. replayed B.meaning room (home (D.disk journal.now.drive).blocks) count 1 (standing_of held.old) ≡ Ok (standing_of held.new)) (λ e. replayed B.meaning room (home (D.disk journal.now.drive).blocks) count 1 (standing_of held.old) ≡ Err e) }
 {
     for done in 0..count {
         let number = done + 1;
@@ -73,9 +73,9 @@ fn replay<D: Drive, B: Book>(
 
 /// Compares items and rows with what stands, and answers the record count if they are the same.
 fn compare<D: Drive>(journal: &Journal<D>, held: &Held, count: u32) -> Result<u64, Refusal>
-    requires on { (D.Drive.disk journal.now.drive).on ≡ true }
-    requires wide { 34 < size (D.Drive.disk journal.now.drive) }
-    ensures value { result ≡ compared count (differing-block (home (D.Drive.disk journal.now.drive).blocks) (standing-of held.now)) }
+    requires on { (D.disk journal.now.drive).on ≡ true }
+    requires wide { 34 < size (D.disk journal.now.drive) }
+    ensures value { result ≡ compared count (differing_block (home (D.disk journal.now.drive).blocks) (standing_of held.now)) }
 {
     let items = read_blocks(journal, Part::Items)?;
     if let Some(block) = first_differing(Part::Items, &items, &codes_blocks(&held.items)) {
@@ -90,9 +90,9 @@ fn compare<D: Drive>(journal: &Journal<D>, held: &Held, count: u32) -> Result<u6
 
 /// The verdict on the home blocks of a drive that is on and has a lawful size.
 pub(crate) fn judge<D: Drive, B: Book>(journal: &Journal<D>, book: &B) -> Result<u64, Refusal>
-    requires on { (D.Drive.disk journal.now.drive).on ≡ true }
-    requires lawful { lawful-size (size (D.Drive.disk journal.now.drive)) ≡ true }
-    ensures value { result ≡ judged B.Book.meaning (room-on (size (D.Drive.disk journal.now.drive))) (home (D.Drive.disk journal.now.drive).blocks) }
+    requires on { (D.disk journal.now.drive).on ≡ true }
+    requires lawful { lawful_size (size (D.disk journal.now.drive)) ≡ true }
+    ensures value { result ≡ judged B.meaning (room-on (size (D.disk journal.now.drive))) (home (D.disk journal.now.drive).blocks) }
 {
     let room = journal.size() - 34;
     let head = check_head(book, room, &read_home(journal, 7)?)?;

@@ -6,8 +6,8 @@ abbrev pub word_in : List ℕ → ℕ → List ℕ
 word_in c i = take 8 (drop (8 * i) c)
 
 -- the two blocks of a roll of 128 bytes
-abbrev pub first-words : List ℕ → List ℕ
-first-words roll = take 64 roll
+abbrev pub first_words : List ℕ → List ℕ
+first_words roll = take 64 roll
 
-abbrev pub last-words : List ℕ → List ℕ
-last-words roll = drop 64 roll
+abbrev pub last_words : List ℕ → List ℕ
+last_words roll = drop 64 roll

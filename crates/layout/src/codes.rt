@@ -1,11 +1,11 @@
 ghost use Rattle.std.specs.Prelude.{◌≡◌};
-ghost use Rattle.layout.specs.Codes.{codes-form, codes-of};
+ghost use Rattle.layout.specs.Codes.{codes_form, codes_of};
 
-use bytes::eight_at;
+use encoding::eight_at;
 
 /// The block of eight codes.
 pub fn codes_block(codes: &[u64; 8]) -> [u8; 64]
-    ensures value { result ≡ codes-form codes.now }
+    ensures value { result ≡ codes_form codes.now }
 {
     let [a, b, c, d, e, f, g, h] = *codes;
     let mut block = [0; 64];
@@ -22,7 +22,7 @@ pub fn codes_block(codes: &[u64; 8]) -> [u8; 64]
 
 /// The eight codes that a block holds.
 pub fn read_codes(block: &[u8; 64]) -> [u64; 8]
-    ensures value { result ≡ codes-of block.now }
+    ensures value { result ≡ codes_of block.now }
 {
     [
         eight_at(block, 0),

@@ -1,12 +1,12 @@
 ghost use Rattle.std.specs.Prelude.{◌≡◌};
-ghost use Rattle.layout.specs.Head.{head-form, head-fields, head_of};
+ghost use Rattle.layout.specs.Head.{head_form, fields_of_head, head_of};
 
 use crate::head::Head;
-use bytes::four_at;
+use encoding::four_at;
 
 /// The head block.
 pub fn head_block(head: Head) -> [u8; 64]
-    ensures value { result ≡ head-form head }
+    ensures value { result ≡ head_form head }
 {
     let mut block = [0; 64];
     block[0..4].copy_from_slice(&head.house.to_le_bytes());
@@ -17,7 +17,7 @@ pub fn head_block(head: Head) -> [u8; 64]
 
 /// What a block's fields give, whatever its other bytes hold.
 pub fn head_fields(block: &[u8; 64]) -> Head
-    ensures value { result ≡ head-fields block.now }
+    ensures value { result ≡ fields_of_head block.now }
 {
     Head {
         house: four_at(block, 0),

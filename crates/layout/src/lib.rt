@@ -1,5 +1,7 @@
 // The blocks of the image, each to the byte: the head, item codes, rows and the roll.
-ghost use Rattle.layout.specs.Rounds.{Read-back};
+#![tactic(auto)]
+
+ghost use Rattle.layout.specs.Rounds.{ReadBack};
 
 mod codes;
 mod head;
@@ -15,7 +17,7 @@ pub use rows::{read_rows, rows_block};
 
 /// A theorem: what is written in a block is read back, and a block is the form of what is read from it.
 pub fn blocks_are_read_back() -> bool
-    ensures holds { Read-back }
+    ensures holds { ReadBack }
 {
     true
 }

@@ -1,11 +1,11 @@
 ghost use Rattle.std.specs.Prelude.{◌≡◌, ◌<◌, ◌≤◌, false};
 ghost use Rattle.std.specs.Str.{bytes_eq};
-ghost use Rattle.layout.specs.Roll.{word_in, first-words, last-words};
+ghost use Rattle.layout.specs.Roll.{word_in, first_words, last_words};
 
 /// The two blocks of a roll of 128 bytes.
 pub fn roll_blocks(roll: &[u8; 128]) -> ([u8; 64], [u8; 64])
-    ensures first { result.0 ≡ first-words roll.now }
-    ensures last { result.1 ≡ last-words roll.now }
+    ensures first { result.0 ≡ first_words roll.now }
+    ensures last { result.1 ≡ last_words roll.now }
 {
     let mut first = [0; 64];
     let mut last = [0; 64];

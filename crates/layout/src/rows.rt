@@ -1,12 +1,12 @@
 ghost use Rattle.std.specs.Prelude.{◌≡◌, ◌+◌, ◌≤◌};
-ghost use Rattle.layout.specs.Rows.{row-form, rows-form, row_from, rows_of};
+ghost use Rattle.layout.specs.Rows.{row_form, rows_form, row_from, rows_of};
 
-use bytes::eight_at;
+use encoding::eight_at;
 use rights::Row;
 
 /// The 16 bytes of a row.
 fn row_bytes(row: Row) -> [u8; 16]
-    ensures value { result ≡ row-form row }
+    ensures value { result ≡ row_form row }
 {
     let [a, b, c, d, e, f, g, h] = row.mask.to_le_bytes();
     [
@@ -31,7 +31,7 @@ fn row_bytes(row: Row) -> [u8; 16]
 
 /// The block of four rows.
 pub fn rows_block(rows: &[Row; 4]) -> [u8; 64]
-    ensures value { result ≡ rows-form rows.now }
+    ensures value { result ≡ rows_form rows.now }
 {
     let mut block = [0; 64];
     block[0..16].copy_from_slice(&row_bytes(rows[0]));

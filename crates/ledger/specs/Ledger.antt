@@ -4,7 +4,7 @@ use Rattle.std.specs.Int.{w64}
 use Rattle.std.proofs.Common.{to_z, of_z}
 use Rattle.refusals.specs.declared.step_place.StepPlace.{StepPlace}
 use Rattle.refusals.specs.declared.step_place.StepPlace.TheVariants.{Items, Amount, Values}
-use Rattle.books.specs.Meaning.{Meaning, amount-ok}
+use Rattle.books.specs.Meaning.{Meaning, amount_ok}
 use Rattle.lists.specs.Every.{all}
 
 -- the balance that a code stands for: two's complement at 64 bits
@@ -12,8 +12,8 @@ abbrev pub balance : ℕ → ℤ
 balance c = to_z w64 c
 
 -- the code of a balance
-abbrev pub balance-code : ℤ → ℕ
-balance-code z = of_z w64 z
+abbrev pub balance_code : ℤ → ℕ
+balance_code z = of_z w64 z
 
 -- within ±1,000,000,000,000 pence
 abbrev pub within : ℤ → Bool
@@ -26,8 +26,8 @@ abbrev pub total : List ℤ → ℤ
 total zs = fold ◌+ℤ◌ (pos 0) zs
 
 -- 64 balances, each within its bounds, whose sum is zero
-abbrev pub ledger-valid : List ℕ → Bool
-ledger-valid cs = length cs == 64 && (all within (map balance cs) && is_zero (total (map balance cs)))
+abbrev pub ledger_valid : List ℕ → Bool
+ledger_valid cs = length cs == 64 && (all within (map balance cs) && is_zero (total (map balance cs)))
 
 -- an account of the house's own
 abbrev pub own : ℕ → Bool
@@ -38,20 +38,20 @@ abbrev pub depositor : ℕ → Bool
 depositor i = nat_le 8 i && nat_lt i 64
 
 -- charge (1): a is a depositor's, b the house's; receipt (2): the reverse; shift (3): two items of one side
-abbrev pub ledger-takes : ℕ → ℕ → ℕ → Bool
-ledger-takes p a b =
+abbrev pub ledger_takes : ℕ → ℕ → ℕ → Bool
+ledger_takes p a b =
     cond (p == 1) (depositor a && own b)
     (cond (p == 2) (own a && depositor b)
     (p == 3 && (not (a == b) && ((own a && own b) || (depositor a && depositor b)))))
 
 -- a balance lies within its bounds before and after a change
-abbrev pub balance-stays : ℤ → ℤ → Bool
-balance-stays z change = within z && within (z +ℤ change)
+abbrev pub balance_stays : ℤ → ℤ → Bool
+balance_stays z change = within z && within (z +ℤ change)
 
 -- the code after a change; none where the balance lies outside before or after
-abbrev pub code-changed : ℕ → ℤ → Option ℕ
-code-changed c change =
-    cond (balance-stays (balance c) change) (Some (balance-code (balance c +ℤ change))) None
+abbrev pub code_changed : ℕ → ℤ → Option ℕ
+code_changed c change =
+    cond (balance_stays (balance c) change) (Some (balance_code (balance c +ℤ change))) None
 
 -- both new codes, or place 3
 abbrev pub both : Option ℕ → Option ℕ → Result (ℕ × ℕ) StepPlace
@@ -60,11 +60,11 @@ both (Some x) None = Err Values
 both (Some x) (Some y) = Ok (x, y)
 
 -- the amount is added to a and taken from b
-abbrev pub ledger-step : ℕ → ℕ → ℕ → ℕ → ℕ → ℕ → Result (ℕ × ℕ) StepPlace
-ledger-step p a b x y n =
-    cond (ledger-takes p a b)
-    (cond (amount-ok 1000000000 n)
-    (both (code-changed x (pos n)) (code-changed y (neg_ℤ (pos n))))
+abbrev pub ledger_step : ℕ → ℕ → ℕ → ℕ → ℕ → ℕ → Result (ℕ × ℕ) StepPlace
+ledger_step p a b x y n =
+    cond (ledger_takes p a b)
+    (cond (amount_ok 1000000000 n)
+    (both (code_changed x (pos n)) (code_changed y (neg_ℤ (pos n))))
     (Err Amount)) (Err Items)
 
 abbrev pub ledger : Meaning
@@ -72,6 +72,6 @@ ledger = record {
   kind = 1;
   ceiling = 1000000000;
   words = codes "charge" ∷ (codes "receipt" ∷ (codes "shift" ∷ []));
-  valid = ledger-valid;
-  step = ledger-step;
+  valid = ledger_valid;
+  step = ledger_step;
 }

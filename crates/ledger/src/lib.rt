@@ -1,8 +1,10 @@
 // The ledger, the book of money: signed balances in pence that sum to zero. `docs/BOOKS.md` has its rules.
+#![tactic(auto)]
+
 ghost use Rattle.std.specs.Prelude.{◌≡◌, pos, neg_ℤ};
-ghost use Rattle.ledger.specs.Ledger.{ledger, ledger-takes, balance, within, code-changed};
-ghost use Rattle.ledger.specs.Stepping.{ledger-tests, ledger-gives-codes};
-ghost use Rattle.ledger.specs.Keeping.{ledger-keeps};
+ghost use Rattle.ledger.specs.Ledger.{ledger, ledger_takes, balance, within, code_changed};
+ghost use Rattle.ledger.specs.Stepping.{ledger_tests, ledger_gives_codes};
+ghost use Rattle.ledger.specs.Keeping.{ledger_keeps};
 ghost use Rattle.std.proofs.Common.{rules};
 
 use books::Book;
@@ -33,7 +35,7 @@ fn is_within(pence: i64) -> bool
 
 /// The code of a balance with an amount added, unless it lies outside its bounds before or after.
 fn raised(code: u64, amount: u32) -> Option<u64>
-    ensures value { result ≡ code-changed code (pos amount) }
+    ensures value { result ≡ code_changed code (pos amount) }
 {
     let before = code.cast_signed();
     if !is_within(before) {
@@ -49,7 +51,7 @@ fn raised(code: u64, amount: u32) -> Option<u64>
 
 /// The code of a balance with an amount taken off, unless it lies outside its bounds before or after.
 fn lowered(code: u64, amount: u32) -> Option<u64>
-    ensures value { result ≡ code-changed code (neg_ℤ (pos amount)) }
+    ensures value { result ≡ code_changed code (neg_ℤ (pos amount)) }
 {
     let before = code.cast_signed();
     if !is_within(before) {
@@ -65,7 +67,7 @@ fn lowered(code: u64, amount: u32) -> Option<u64>
 
 /// Whether the procedure takes these two items.
 fn takes(procedure: u64, a: u64, b: u64) -> bool
-    ensures value { result ≡ ledger-takes procedure a b }
+    ensures value { result ≡ ledger_takes procedure a b }
 {
     let own_a = a < 8;
     let own_b = b < 8;
@@ -98,11 +100,11 @@ impl Book for Ledger {
 
     ghost proper_words = { Prim.search rules };
 
-    ghost step_tests = { ledger-tests };
+    ghost step_tests = { ledger_tests };
 
-    ghost step_gives_codes = { ledger-gives-codes };
+    ghost step_gives_codes = { ledger_gives_codes };
 
-    ghost step_keeps_valid = { ledger-keeps };
+    ghost step_keeps_valid = { ledger_keeps };
 
     ghost one_code_each = { Prim.search rules };
 

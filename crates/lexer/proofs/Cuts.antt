@@ -11,15 +11,15 @@ abbrev before : (ℕ → Bool) → List ℕ → ℕ
 before cut xs = prefix_len (λ b. not (cut b)) xs
 
 -- the first piece ends before the first cut, and the rest begins after it
-pub pieces-cut :
+pub pieces_cut :
     (cut : ℕ → Bool) (xs : List ℕ)
     → before cut xs < length xs
     → pieces cut xs ≡ take (before cut xs) xs ∷ pieces cut (drop (before cut xs + 1) xs)
-pieces-cut cut [] h = absurd (omega arith)
-pieces-cut cut (b ∷ bs) h =
+pieces_cut cut [] h = absurd (omega arith)
+pieces_cut cut (b ∷ bs) h =
     cond_both (not (cut b)) (1 + before cut bs) 0
     (λ n. n < length (b ∷ bs) → pieces cut (b ∷ bs) ≡ take n (b ∷ bs) ∷ pieces cut (drop (n + 1) (b ∷ bs)))
-    (λ e l. let s : before cut bs < length bs = omega arith in rw (not-true (cut b) e, pieces-cut cut bs s, one-add, add-one, add-one))
+    (λ e l. let s : before cut bs < length bs = omega arith in rw (not-true (cut b) e, pieces_cut cut bs s, one-add, add-one, add-one))
     (λ e _. rw (not-false (cut b) e))
     h
 
@@ -34,23 +34,23 @@ pieces_whole cut (b ∷ bs) h =
     h
 
 -- a blank in front makes no word
-words-blank : (b : ℕ) (bs : List ℕ) → blank b ≡ true → words (b ∷ bs) ≡ words bs
-words-blank b bs e = rw e
+words_blank : (b : ℕ) (bs : List ℕ) → blank b ≡ true → words (b ∷ bs) ≡ words bs
+words_blank b bs e = rw e
 
 -- blanks in front make no word
-pub words-skip : (xs : List ℕ) → words xs ≡ words (drop (prefix_len blank xs) xs)
-words-skip [] = refl
-words-skip (b ∷ bs) =
+pub words_skip : (xs : List ℕ) → words xs ≡ words (drop (prefix_len blank xs) xs)
+words_skip [] = refl
+words_skip (b ∷ bs) =
     cond_both (blank b) (1 + prefix_len blank bs) 0 (λ n. words (b ∷ bs) ≡ words (drop n (b ∷ bs)))
-    (λ e. rw one-add (words-blank b bs e ∙ words-skip bs))
+    (λ e. rw one-add (words_blank b bs e ∙ words_skip bs))
     (λ e. refl)
 
 -- blanks alone hold no word
-pub words-none : (xs : List ℕ) → before blank (drop (prefix_len blank xs) xs) ≡ 0 → words xs ≡ []
-words-none [] h = refl
-words-none (b ∷ bs) h =
+pub words_none : (xs : List ℕ) → before blank (drop (prefix_len blank xs) xs) ≡ 0 → words xs ≡ []
+words_none [] h = refl
+words_none (b ∷ bs) h =
     cond_both (blank b) (1 + prefix_len blank bs) 0 (λ n. before blank (drop n (b ∷ bs)) ≡ 0 → words (b ∷ bs) ≡ [])
-    (λ e k. words-blank b bs e ∙ words-none bs (rw one-add at k))
+    (λ e k. words_blank b bs e ∙ words_none bs (rw one-add at k))
     (λ e k. absurd (omega (arith, rw e at k)))
     h
 
@@ -66,18 +66,18 @@ first_piece (b ∷ bs) =
     cond_both (not (blank b)) (1 + before blank bs) 0
     (λ n. (ps : List (List ℕ)) × (pieces blank (b ∷ bs) ≡ take n (b ∷ bs) ∷ ps) × (filled ps ≡ words (drop n (b ∷ bs))))
     (λ e. let f = not-true (blank b) e in (more.0, rw (f, more.1, one-add), rw one-add more.2))
-    (λ e. let f = not-false (blank b) e in (pieces blank bs, rw f, sym (words-blank b bs f)))
+    (λ e. let f = not-false (blank b) e in (pieces blank bs, rw f, sym (words_blank b bs f)))
 
 -- a piece that is not empty is kept
-filled-kept : (p : List ℕ) (ps : List (List ℕ)) → 0 < length p → filled (p ∷ ps) ≡ p ∷ filled ps
-filled-kept [] ps h = absurd (omega arith)
-filled-kept (b ∷ p) ps h = refl
+filled_kept : (p : List ℕ) (ps : List (List ℕ)) → 0 < length p → filled (p ∷ ps) ≡ p ∷ filled ps
+filled_kept [] ps h = absurd (omega arith)
+filled_kept (b ∷ p) ps h = refl
 
 -- the first word ends before the first blank
-pub words-first :
+pub words_first :
     (xs : List ℕ) → 0 < before blank xs → words xs ≡ take (before blank xs) xs ∷ words (drop (before blank xs) xs)
-words-first xs h =
+words_first xs h =
     let first = first_piece xs in
     let within = prefix_len-le-length (λ b. not (blank b)) xs in
     let some : 0 < length (take (before blank xs) xs) = rw length-take-le h in
-    ap filled first.1 ∙ filled-kept _ _ some ∙ ap (λ ws. take (before blank xs) xs ∷ ws) first.2
+    ap filled first.1 ∙ filled_kept _ _ some ∙ ap (λ ws. take (before blank xs) xs ∷ ws) first.2

@@ -10,5 +10,5 @@ abbrev pub value : List ℕ → ℕ
 value ds = fold (λ v d. v * 10 + (d - 48)) 0 ds
 
 -- the number that a word types: at least one digit and nothing else, with a value below 2 ^ 64
-abbrev pub typed-number : List ℕ → Option ℕ
-typed-number w = cond (nat_le 1 (length w) && (all digit w && nat_lt (value w) (2 ^ 64))) (Some (value w)) None
+abbrev pub number_typed : List ℕ → Option ℕ
+number_typed w = cond (nat_le 1 (length w) && (all digit w && nat_lt (value w) (2 ^ 64))) (Some (value w)) None

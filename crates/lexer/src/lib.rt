@@ -1,5 +1,7 @@
 // The pieces of a script: its lines, the words of a line, and the numbers that words type.
 // Every function takes any bytes.
+#![tactic(auto)]
+
 mod numerals;
 mod pieces;
 

@@ -1,9 +1,9 @@
 ghost use Rattle.std.specs.Prelude.{◌≡◌};
-ghost use Rattle.lexer.specs.Numerals.{typed-number};
+ghost use Rattle.lexer.specs.Numerals.{number_typed};
 
 /// The number that a word types in decimal digits, if it fits 64 bits.
 pub fn typed_number(word: &[u8]) -> Option<u64>
-    ensures value { result ≡ typed-number word.now }
+    ensures value { result ≡ number_typed word.now }
 {
     if word.is_empty() {
         return None;

@@ -15,7 +15,7 @@ all_set p (y ∷ ys) (suc i) x h k =
     and_from (p y) (all p (set ys i x)) parts.0 (all_set p ys i x h parts.1)
 
 -- all that is left pass if the next one does and all after it do
-pub all-drop-more :
+pub all_drop_more :
     {X : Type 0} (p : X → Bool) (xs : List X) (i : ℕ) (d : X)
     → i < length xs → all p (drop i xs) ≡ (p (get_or xs i d) && all p (drop (i + 1) xs))
-all-drop-more p xs i d h = at_drop_more (all p) xs i d h
+all_drop_more p xs i d h = at_drop_more (all p) xs i d h

@@ -1,1 +1,2 @@
 // Definitions and lemmas on lists that several crates cite. It holds no code.
+#![tactic(auto)]

@@ -1,4 +1,6 @@
 // Notes: typed numbers that passed their tests. Only this crate can make one.
+#![tactic(auto)]
+
 mod making;
 mod note;
 mod numbers;

@@ -15,7 +15,7 @@ pub fn make_note<B: Book>(
     b: u64,
     amount: u64,
 ) -> Result<Note, Refusal>
-    ensures value { made_of result ≡ noted B.Book.meaning procedure a b amount }
+    ensures value { made_of result ≡ noted B.meaning procedure a b amount }
 {
     if procedure < 1 || procedure > book.procedures() {
         return Err(Refusal::at(Reason::NoSuchProcedure, procedure));

@@ -1,28 +1,28 @@
 -- A record is read back from its block.
-use Rattle.std.proofs.Common.{◌≡◌, ℕ, ◌+◌, ◌*◌, ◌^◌, ◌<◌, Bool, true, false, cond, eqb, ◌⊎◌, List, get_or, Some, None, Option, sym, refl, ap, ◌∙◌, subst, inl, inr, arith}
+use Rattle.std.proofs.Common.{◌≡◌, ℕ, cond, List, Some, None, Option, sym, refl, ap, ◌∙◌, inl, inr, arith}
 use Rattle.std.specs.Str.{bytes_eq}
 use Rattle.std.proofs.lemmas.Slice.Eq.{bytes_eq-Decides}
 use Rattle.std.proofs.lemmas.Bool.{cases_Bool}
-use Rattle.bytes.specs.Numbers.{eight-from}
-use Rattle.bytes.proofs.Sums.{eight-sum}
-use Rattle.records.specs.Form.{encoded, Fits, parsed, Exact, if-form, decoded, One-form}
+use Rattle.encoding.specs.Numbers.{eight_from}
+use Rattle.encoding.proofs.Sums.{eight_sum}
+use Rattle.records.specs.Form.{encoded, Fits, parsed, Exact, if_form, decoded, OneForm}
 use Rattle.records.specs.declared.record.Record.{Record}
 use Rattle.records.specs.declared.record.Record.TheVariants.{Posting, Certification, Strike}
 
 -- a record's fields are read back
-parsed-back : (k : ℕ) (x : Record) → Fits x → parsed (encoded k x) ≡ Some x
-parsed-back k (Posting e c p a b n) h = ap (λ z. Some (Posting e c p a b z)) (eight-sum n h)
-parsed-back k (Certification u p r w m) h = ap (λ z. Some (Certification u p r w z)) (eight-sum m h)
-parsed-back k (Strike w) h = refl
+parsed_back : (k : ℕ) (x : Record) → Fits x → parsed (encoded k x) ≡ Some x
+parsed_back k (Posting e c p a b n) h = ap (λ z. Some (Posting e c p a b z)) (eight_sum n h)
+parsed_back k (Certification u p r w m) h = ap (λ z. Some (Certification u p r w z)) (eight_sum m h)
+parsed_back k (Strike w) h = refl
 
 -- the record is read back
 pub read_back : (k : ℕ) (x : Record) → Fits x → decoded k (encoded k x) ≡ Some x
 read_back k x h =
-    ap (if-form k (encoded k x)) (parsed-back k x h)
+    ap (if_form k (encoded k x)) (parsed_back k x h)
     ∙ ap (λ z. cond z (Some x) None) ((bytes_eq-Decides (encoded k x) (encoded k x)).1 refl)
 
 -- what is read is what the block's fields give, and the block is its form
-form_of : (k : ℕ) (c : List ℕ) (x : Record) (o : Option Record) → if-form k c o ≡ Some x → (o ≡ Some x) × (encoded k x ≡ c)
+form_of : (k : ℕ) (c : List ℕ) (x : Record) (o : Option Record) → if_form k c o ≡ Some x → (o ≡ Some x) × (encoded k x ≡ c)
 form_of k c x None e = absurd (let z : ◌≡◌ {A = ℕ} 0 1 = cc in omega arith)
 form_of k c x (Some y) e =
     elim (cases_Bool (bytes_eq (encoded k y) c)) [
@@ -36,19 +36,19 @@ form_of k c x (Some y) e =
     ]
 
 -- what is read back from its own form fits
-fits-back : (k : ℕ) (x : Record) → parsed (encoded k x) ≡ Some x → Fits x
-fits-back k (Posting e c p a b n) h =
-    let same : eight-from (encoded k (Posting e c p a b n)) 8 ≡ n = cc in
+fits_back : (k : ℕ) (x : Record) → parsed (encoded k x) ≡ Some x → Fits x
+fits_back k (Posting e c p a b n) h =
+    let same : eight_from (encoded k (Posting e c p a b n)) 8 ≡ n = cc in
     omega arith
-fits-back k (Certification u p r w m) h =
-    let same : eight-from (encoded k (Certification u p r w m)) 16 ≡ m = cc in
+fits_back k (Certification u p r w m) h =
+    let same : eight_from (encoded k (Certification u p r w m)) 16 ≡ m = cc in
     omega arith
-fits-back k (Strike w) h = tt
+fits_back k (Strike w) h = tt
 
 pub exact : (k : ℕ) (x : Record) (c : List ℕ) → decoded k c ≡ Some x → Exact k x c
 exact k x c e =
     let f = form_of k c x (parsed c) e in
-    record { fits = fits-back k x (ap parsed f.1 ∙ f.0); form = f.1 }
+    record { fits = fits_back k x (ap parsed f.1 ∙ f.0); form = f.1 }
 
 -- a block that is a form is read
 pub no_other : (k : ℕ) (x : Record) (c : List ℕ) → decoded k c ≡ None → Exact k x c → ⊥
@@ -57,5 +57,5 @@ no_other k x c e f =
     let z : ◌≡◌ {A = ℕ} 0 1 = cc in
     omega arith
 
-pub one_form : One-form
+pub one_form : OneForm
 one_form = record { read_back = read_back; exact = exact; no_other = no_other }

@@ -1,7 +1,7 @@
 -- The one form of an audit record: 64 bytes.
 use Rattle.std.specs.Prelude.{◌≡◌, ℕ, ◌^◌, ◌<◌, cond, List, ◌∷◌, ◌++◌, replicate, Some, None, Option, ◌==◌, slice_index}
 use Rattle.std.specs.Str.{bytes_eq}
-use Rattle.bytes.specs.Numbers.{four_bytes, eight-bytes, eight-from}
+use Rattle.encoding.specs.Numbers.{four_bytes, eight_bytes, eight_from}
 use Rattle.records.specs.declared.record.Record.{Record}
 use Rattle.records.specs.declared.record.Record.TheVariants.{Posting, Certification, Strike}
 
@@ -9,7 +9,7 @@ use Rattle.records.specs.declared.record.Record.TheVariants.{Posting, Certificat
 abbrev pub form : ℕ → ℕ → ℕ → ℕ → ℕ → ℕ → ℕ → ℕ → ℕ → ℕ → ℕ → List ℕ
 form kind first second procedure role row a b n mask number =
     kind ∷ (first ∷ (second ∷ (procedure ∷ (role ∷ (row ∷ (a ∷ (b
-    ∷ (eight-bytes n ++ (eight-bytes mask ++ (four_bytes number ++ replicate 36 0))))))))))
+    ∷ (eight_bytes n ++ (eight_bytes mask ++ (four_bytes number ++ replicate 36 0))))))))))
 
 -- a posting is kind 1, a certification 2, a strike 3; what a kind does not fill is zero
 abbrev pub encoded : ℕ → Record → List ℕ
@@ -27,9 +27,9 @@ Fits (Strike row) = Unit {0}
 abbrev pub parsed : List ℕ → Option Record
 parsed c =
     cond (slice_index c 0 == 1)
-    (Some (Posting (slice_index c 1) (slice_index c 2) (slice_index c 3) (slice_index c 6) (slice_index c 7) (eight-from c 8)))
+    (Some (Posting (slice_index c 1) (slice_index c 2) (slice_index c 3) (slice_index c 6) (slice_index c 7) (eight_from c 8)))
     (cond (slice_index c 0 == 2)
-    (Some (Certification (slice_index c 1) (slice_index c 3) (slice_index c 4) (slice_index c 5) (eight-from c 16)))
+    (Some (Certification (slice_index c 1) (slice_index c 3) (slice_index c 4) (slice_index c 5) (eight_from c 16)))
     (cond (slice_index c 0 == 3) (Some (Strike (slice_index c 5))) None))
 
 -- a block is a record's exact form, with this number
@@ -38,17 +38,17 @@ pub record Exact (number : ℕ) (x : Record) (c : List ℕ) : Type 0 where
   pub form : encoded number x ≡ c
 
 -- the record, if the block is its form
-abbrev pub if-form : ℕ → List ℕ → Option Record → Option Record
-if-form number c None = None
-if-form number c (Some x) = cond (bytes_eq (encoded number x) c) (Some x) None
+abbrev pub if_form : ℕ → List ℕ → Option Record → Option Record
+if_form number c None = None
+if_form number c (Some x) = cond (bytes_eq (encoded number x) c) (Some x) None
 
 -- the record whose exact form the block is, with this number; none where it is no record's
 abbrev pub decoded : ℕ → List ℕ → Option Record
-decoded number c = if-form number c (parsed c)
+decoded number c = if_form number c (parsed c)
 
 -- an encoded record is read back from its block, what is read is what the block is the form of, and a block from which
 -- nothing is read is no record's form
-pub record One-form : Type 0 where
+pub record OneForm : Type 0 where
   pub read_back : (number : ℕ) (x : Record) → Fits x → decoded number (encoded number x) ≡ Some x
   pub exact : (number : ℕ) (x : Record) (c : List ℕ) → decoded number c ≡ Some x → Exact number x c
   pub no_other : (number : ℕ) (x : Record) (c : List ℕ) → decoded number c ≡ None → Exact number x c → ⊥

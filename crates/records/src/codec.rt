@@ -1,9 +1,9 @@
 ghost use Rattle.std.specs.Prelude.{◌≡◌};
 ghost use Rattle.records.specs.declared.record.Record.TheVariants.{Posting, Certification};
-ghost use Rattle.records.specs.Form.{form, encoded, parsed, decoded, One-form};
+ghost use Rattle.records.specs.Form.{form, encoded, parsed, decoded, OneForm};
 
 use crate::record::Record;
-use bytes::eight_at;
+use encoding::eight_at;
 
 /// The bytes that every record has, before its numbers.
 #[derive(Clone, Copy)]
@@ -165,7 +165,7 @@ pub fn decode(block: &[u8; 64], number: u32) -> Option<Record>
 
 /// A theorem: a record has one form, and is read back from it.
 pub fn records_have_one_form() -> bool
-    ensures holds { One-form }
+    ensures holds { OneForm }
 {
     true
 }

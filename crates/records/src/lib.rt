@@ -1,4 +1,6 @@
 // Audit records: what was done, each in one form of 64 bytes, and read back from it.
+#![tactic(auto)]
+
 mod codec;
 mod record;
 mod text;

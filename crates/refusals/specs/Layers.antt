@@ -4,29 +4,29 @@ use Rattle.refusals.specs.declared.reasons.Reason.TheVariants.{NoSuchProcedure, 
 use Rattle.refusals.specs.declared.reasons.Layer.{Layer}
 use Rattle.refusals.specs.declared.reasons.Layer.TheVariants.{Note, House, Drive, Journal, Image, Book, Monitor}
 
-abbrev pub layer-of : Reason → Layer
-layer-of NoSuchProcedure = Note
-layer-of NoSuchNoteItem = Note
-layer-of SameItem = Note
-layer-of BadAmount = Note
-layer-of BadScript = House
-layer-of Shut = Monitor
-layer-of PowerLost = Drive
-layer-of BadWord = Monitor
-layer-of EntererNotEntitled = Monitor
-layer-of Foreign = Monitor
-layer-of SamePerson = Monitor
-layer-of CountersignerNotEntitled = Monitor
-layer-of AuditFull = Monitor
-layer-of StepRefused = Book
-layer-of InvalidAfter = Book
-layer-of BadFormat = Monitor
-layer-of BadSize = Drive
-layer-of InvalidOpening = Book
-layer-of BadCommitBlock = Journal
-layer-of BadHead = Image
-layer-of BadRecord = Image
-layer-of BlockDiffers = Image
-layer-of BadRow = Monitor
-layer-of RowTaken = Monitor
-layer-of NoSuchEntry = Monitor
+abbrev pub layer_of : Reason → Layer
+layer_of NoSuchProcedure = Note
+layer_of NoSuchNoteItem = Note
+layer_of SameItem = Note
+layer_of BadAmount = Note
+layer_of BadScript = House
+layer_of Shut = Monitor
+layer_of PowerLost = Drive
+layer_of BadWord = Monitor
+layer_of EntererNotEntitled = Monitor
+layer_of Foreign = Monitor
+layer_of SamePerson = Monitor
+layer_of CountersignerNotEntitled = Monitor
+layer_of AuditFull = Monitor
+layer_of StepRefused = Book
+layer_of InvalidAfter = Book
+layer_of BadFormat = Monitor
+layer_of BadSize = Drive
+layer_of InvalidOpening = Book
+layer_of BadCommitBlock = Journal
+layer_of BadHead = Image
+layer_of BadRecord = Image
+layer_of BlockDiffers = Image
+layer_of BadRow = Monitor
+layer_of RowTaken = Monitor
+layer_of NoSuchEntry = Monitor

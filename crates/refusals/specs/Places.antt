@@ -9,26 +9,26 @@ use Rattle.refusals.specs.declared.format_place.FormatPlace.TheVariants as forma
 use Rattle.refusals.specs.declared.row_place.RowPlace.{RowPlace}
 use Rattle.refusals.specs.declared.row_place.RowPlace.TheVariants as row
 
-abbrev pub step-place : StepPlace → ℕ
-step-place step.Items = 1
-step-place step.Amount = 2
-step-place step.Values = 3
+abbrev pub step_place_number : StepPlace → ℕ
+step_place_number step.Items = 1
+step_place_number step.Amount = 2
+step_place_number step.Values = 3
 
-abbrev pub power-place : PowerPlace → ℕ
-power-place power.Dark = 0
-power-place power.Staging = 1
-power-place power.Committing = 2
-power-place power.Applying = 3
-power-place power.Starting = 4
+abbrev pub power_place_number : PowerPlace → ℕ
+power_place_number power.Dark = 0
+power_place_number power.Staging = 1
+power_place_number power.Committing = 2
+power_place_number power.Applying = 3
+power_place_number power.Starting = 4
 
-abbrev pub format-place : FormatPlace → ℕ
-format-place format.House = 1
-format-place format.Roll = 2
-format-place format.Opening = 3
+abbrev pub format_place_number : FormatPlace → ℕ
+format_place_number format.House = 1
+format_place_number format.Roll = 2
+format_place_number format.Opening = 3
 
-abbrev pub row-place : RowPlace → ℕ
-row-place row.Row = 1
-row-place row.User = 2
-row-place row.Procedure = 3
-row-place row.Role = 4
-row-place row.Mask = 5
+abbrev pub row_place_number : RowPlace → ℕ
+row_place_number row.Row = 1
+row_place_number row.User = 2
+row_place_number row.Procedure = 3
+row_place_number row.Role = 4
+row_place_number row.Mask = 5

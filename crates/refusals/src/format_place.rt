@@ -1,5 +1,5 @@
 ghost use Rattle.std.specs.Prelude.{◌≡◌};
-ghost use Rattle.refusals.specs.Places.{format-place};
+ghost use Rattle.refusals.specs.Places.{format_place_number};
 
 /// Which argument of format is at fault (16).
 #[derive(Clone, Copy)]
@@ -15,7 +15,7 @@ pub enum FormatPlace {
 impl FormatPlace {
     /// The place that people see.
     pub fn place(self) -> u64
-        ensures value { result ≡ format-place self }
+        ensures value { result ≡ format_place_number self }
     {
         self as u64
     }

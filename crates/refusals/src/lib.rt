@@ -1,6 +1,8 @@
 // What people hear when a call says no: a number, the layer that said it, the rule that it guards, and a place.
 // Every crate above answers with these; no other number is ever printed. A place that comes from a closed list is an
 // enum whose discriminants are the places that people see.
+#![tactic(auto)]
+
 mod format_place;
 mod power_place;
 mod reasons;

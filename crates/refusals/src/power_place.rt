@@ -1,5 +1,5 @@
 ghost use Rattle.std.specs.Prelude.{◌≡◌};
-ghost use Rattle.refusals.specs.Places.{power-place};
+ghost use Rattle.refusals.specs.Places.{power_place_number};
 
 /// Where power was lost (7).
 #[derive(Clone, Copy)]
@@ -19,7 +19,7 @@ pub enum PowerPlace {
 impl PowerPlace {
     /// The place that people see.
     pub fn place(self) -> u64
-        ensures value { result ≡ power-place self }
+        ensures value { result ≡ power_place_number self }
     {
         self as u64
     }

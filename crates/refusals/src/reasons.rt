@@ -1,8 +1,8 @@
 ghost use Rattle.std.specs.Prelude.{◌≡◌};
 ghost use Rattle.refusals.specs.Numbers.{number};
-ghost use Rattle.refusals.specs.Layers.{layer-of};
-ghost use Rattle.refusals.specs.Rules.{rule-of};
-ghost use Rattle.refusals.specs.Texts.{meaning-of, layer-name, rule-name};
+ghost use Rattle.refusals.specs.Layers.{layer_of};
+ghost use Rattle.refusals.specs.Rules.{rule_of};
+ghost use Rattle.refusals.specs.Texts.{meaning_of, layer_name, rule_name};
 
 /// Why a call refuses. Each case's discriminant is the number that people see; 25 is no refusal.
 #[derive(Clone, Copy, PartialEq, Eq, Debug)]
@@ -95,7 +95,7 @@ impl Reason {
 
     /// The layer that refuses.
     pub fn layer(self) -> Layer
-        ensures value { result ≡ layer-of self }
+        ensures value { result ≡ layer_of self }
     {
         match self {
             Reason::NoSuchProcedure
@@ -123,7 +123,7 @@ impl Reason {
 
     /// The rule that the refusal guards, if it guards one.
     pub fn rule(self) -> Option<Rule>
-        ensures value { result ≡ rule-of self }
+        ensures value { result ≡ rule_of self }
     {
         match self {
             Reason::InvalidOpening => Some(Rule::C1),
@@ -153,7 +153,7 @@ impl Reason {
 
     /// What the refusal means, in a few words.
     pub fn meaning(self) -> &'static str
-        ensures value { result.now ≡ meaning-of self }
+        ensures value { result.now ≡ meaning_of self }
     {
         match self {
             Reason::NoSuchProcedure => "the book has no such procedure",
@@ -188,7 +188,7 @@ impl Reason {
 impl Layer {
     /// The layer's name as it is printed.
     pub fn name(self) -> &'static str
-        ensures value { result.now ≡ layer-name self }
+        ensures value { result.now ≡ layer_name self }
     {
         match self {
             Layer::Note => "note",
@@ -205,7 +205,7 @@ impl Layer {
 impl Rule {
     /// The rule's name as it is printed.
     pub fn name(self) -> &'static str
-        ensures value { result.now ≡ rule-name self }
+        ensures value { result.now ≡ rule_name self }
     {
         match self {
             Rule::C1 => "C1",

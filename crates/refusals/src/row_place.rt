@@ -1,5 +1,5 @@
 ghost use Rattle.std.specs.Prelude.{◌≡◌};
-ghost use Rattle.refusals.specs.Places.{row-place};
+ghost use Rattle.refusals.specs.Places.{row_place_number};
 
 /// Which argument of certify or strike is at fault (23), in the order of the tests.
 #[derive(Clone, Copy)]
@@ -19,7 +19,7 @@ pub enum RowPlace {
 impl RowPlace {
     /// The place that people see.
     pub fn place(self) -> u64
-        ensures value { result ≡ row-place self }
+        ensures value { result ≡ row_place_number self }
     {
         self as u64
     }

@@ -1,5 +1,5 @@
 ghost use Rattle.std.specs.Prelude.{◌≡◌};
-ghost use Rattle.refusals.specs.Places.{step-place};
+ghost use Rattle.refusals.specs.Places.{step_place_number};
 
 /// Where a book's step refuses (14), in the order of its tests.
 #[derive(Clone, Copy, PartialEq, Eq, Debug)]
@@ -15,7 +15,7 @@ pub enum StepPlace {
 impl StepPlace {
     /// The place that people see.
     pub fn place(self) -> u64
-        ensures value { result ≡ step-place self }
+        ensures value { result ≡ step_place_number self }
     {
         self as u64
     }

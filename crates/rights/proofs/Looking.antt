@@ -9,12 +9,12 @@ module _ (rows : List Row) (q : Asked) (i k : ℕ) (d : Row) (x : Bool) (rest : 
   next_row : (t : Bool) → k < length rows → t ≡ covers (get_or rows k d) q i → (t || covered (drop (k + 1) rows) q i) ≡ x
   next_row t l e = ap (λ z. z || covered (drop (k + 1) rows) q i) e ∙ sym (at_drop_more (λ z. covered z q i) rows k d l) ∙ rest
 
-  pub covered-here : k < length rows → true ≡ covers (get_or rows k d) q i → true ≡ x
-  covered-here l e = next_row true l e
+  pub covered_here : k < length rows → true ≡ covers (get_or rows k d) q i → true ≡ x
+  covered_here l e = next_row true l e
 
-  pub covered-later : k < length rows → false ≡ covers (get_or rows k d) q i → covered (drop (k + 1) rows) q i ≡ x
-  covered-later l e = next_row false l e
+  pub covered_later : k < length rows → false ≡ covers (get_or rows k d) q i → covered (drop (k + 1) rows) q i ≡ x
+  covered_later l e = next_row false l e
 
   -- no row is left
-  pub covered-nowhere : length rows ≤ k → false ≡ x
-  covered-nowhere l = sym (at_drop_all (λ z. covered z q i) rows k l) ∙ rest
+  pub covered_nowhere : length rows ≤ k → false ≡ x
+  covered_nowhere l = sym (at_drop_all (λ z. covered z q i) rows k l) ∙ rest

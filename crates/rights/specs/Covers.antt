@@ -5,13 +5,13 @@ use Rattle.rights.specs.declared.row.Role.{Role}
 use Rattle.rights.specs.declared.row.Role.TheVariants.{Enter, Countersign}
 
 -- the number of a role
-abbrev pub role-number : Role → ℕ
-role-number Enter = 1
-role-number Countersign = 2
+abbrev pub role_number : Role → ℕ
+role_number Enter = 1
+role_number Countersign = 2
 
 -- the bit of value 2 ^ i stands for item i
-abbrev pub has-item : ℕ → ℕ → Bool
-has-item mask i = mask / 2 ^ i % 2 == 1
+abbrev pub has_item : ℕ → ℕ → Bool
+has_item mask i = mask / 2 ^ i % 2 == 1
 
 -- what is asked of the rows: may this user do this procedure in this role
 pub record Asked : Type 0 where
@@ -22,8 +22,8 @@ pub record Asked : Type 0 where
 -- a row covers an item for a user, procedure and role if it names those three and has the item's bit
 abbrev pub covers : Row → Asked → ℕ → Bool
 covers w q i =
-    (w.user == q.user && (w.procedure == q.procedure && w.role == role-number q.role))
-    && has-item w.mask i
+    (w.user == q.user && (w.procedure == q.procedure && w.role == role_number q.role))
+    && has_item w.mask i
 
 -- a free row is all zero
 abbrev pub free : Row

@@ -1,11 +1,11 @@
 ghost use Rattle.std.specs.Prelude.{◌≡◌, ◌<◌, true, length, is_some, IfSome, None, slice_index_or};
-ghost use Rattle.rights.specs.Covers.{has-item, covers, free, is_free, covered, uncovered};
+ghost use Rattle.rights.specs.Covers.{has_item, covers, free, is_free, covered, uncovered};
 
 use crate::row::{Role, Row};
 
 /// Whether a mask has the bit of an item.
 fn has_bit(mask: u64, item: u64) -> bool
-    ensures value { result ≡ has-item mask item }
+    ensures value { result ≡ has_item mask item }
     ensures within { result ≡ true → item < 64 }
 {
     item < 64 && (mask >> item) % 2 == 1

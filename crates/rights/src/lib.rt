@@ -1,4 +1,6 @@
 // Rights: which user may do which procedure on which items, in which role. The rows are the whole of it.
+#![tactic(auto)]
+
 mod asking;
 mod row;
 

@@ -7,7 +7,7 @@ use Rattle.ledger.specs.Ledger.{ledger}
 use Rattle.stock.specs.Stock.{stock}
 use Rattle.lists.specs.Every.{all}
 use Rattle.lexer.specs.Pieces.{printable, words, uncommented}
-use Rattle.lexer.specs.Numerals.{typed-number}
+use Rattle.lexer.specs.Numerals.{number_typed}
 use Rattle.script.specs.declared.line.BookName.{BookName}
 use Rattle.script.specs.declared.line.BookName.TheVariants as book-name
 use Rattle.script.specs.declared.line.Line.{Line}
@@ -24,18 +24,18 @@ or_else None y = y
 or_else (Some x) y = Some x
 
 -- the book of a name
-abbrev pub meaning-of : BookName → Meaning
-meaning-of book-name.Ledger = ledger
-meaning-of book-name.Stock = stock
+abbrev pub meaning_of : BookName → Meaning
+meaning_of book-name.Ledger = ledger
+meaning_of book-name.Stock = stock
 
-abbrev pub book-named : List ℕ → Option BookName
-book-named w =
+abbrev pub book_named : List ℕ → Option BookName
+book_named w =
     cond (bytes_eq w (codes "ledger")) (Some book-name.Ledger)
     (cond (bytes_eq w (codes "stock")) (Some book-name.Stock) None)
 
 -- a procedure is typed by its word in the book, or by its number
-abbrev pub typed-procedure : BookName → List ℕ → Option ℕ
-typed-procedure book w = or_else (named (meaning-of book).words w) (typed-number w)
+abbrev pub typed_procedure : BookName → List ℕ → Option ℕ
+typed_procedure book w = or_else (named (meaning_of book).words w) (number_typed w)
 
 -- the first of the words by what it stands for, and the words after it
 abbrev pub first : {X : Type 0} → (List ℕ → Option X) → List (List ℕ) → Option (X × List (List ℕ))
@@ -53,27 +53,27 @@ alone x ws = cond (none_left ws) (Some x) None
 
 -- after `book`: its name, and no more
 abbrev pub choice : List (List ℕ) → Option Line
-choice ws = then (first book-named ws) (λ s. alone (Chooses s.0) s.1)
+choice ws = then (first book_named ws) (λ s. alone (Chooses s.0) s.1)
 
 -- after `note`: a procedure, items a and b, an amount, and no more
-abbrev pub note-of : BookName → List (List ℕ) → Option Line
-note-of book ws =
-    then (first (typed-procedure book) ws) (λ p.
-    then (first typed-number p.1) (λ a.
-    then (first typed-number a.1) (λ b.
-    then (first typed-number b.1) (λ n.
+abbrev pub note_of : BookName → List (List ℕ) → Option Line
+note_of book ws =
+    then (first (typed_procedure book) ws) (λ p.
+    then (first number_typed p.1) (λ a.
+    then (first number_typed a.1) (λ b.
+    then (first number_typed b.1) (λ n.
     alone (Types (record { book = book; procedure = p.0; a = a.0; b = b.0; amount = n.0 })) n.1))))
 
 -- a note needs a book that was chosen before it
-abbrev pub note-line : Option BookName → List (List ℕ) → Option Line
-note-line None ws = None
-note-line (Some book) ws = note-of book ws
+abbrev pub note_line : Option BookName → List (List ℕ) → Option Line
+note_line None ws = None
+note_line (Some book) ws = note_of book ws
 
 -- a line by its words
 abbrev pub said : Option BookName → List (List ℕ) → Option Line
 said book [] = Some Nothing
 said book (w ∷ ws) =
-    cond (bytes_eq w (codes "book")) (choice ws) (cond (bytes_eq w (codes "note")) (note-line book ws) None)
+    cond (bytes_eq w (codes "book")) (choice ws) (cond (bytes_eq w (codes "note")) (note_line book ws) None)
 
 -- a line by its bytes, with the book that is chosen above it; none where the line is bad
 abbrev pub understood : Option BookName → List ℕ → Option Line

@@ -20,26 +20,26 @@ abbrev pub ended : Reading
 ended = record { commands = []; bad = None }
 
 -- a line's own command, before the rest
-abbrev pub with-line : ℕ → Line → Reading → Reading
-with-line k Nothing rest = rest
-with-line k (Chooses b) rest = rest
-with-line k (Types t) rest = record { commands = record { line = k; typed = t } ∷ rest.commands; bad = rest.bad }
+abbrev pub with_line : ℕ → Line → Reading → Reading
+with_line k Nothing rest = rest
+with_line k (Chooses b) rest = rest
+with_line k (Types t) rest = record { commands = record { line = k; typed = t } ∷ rest.commands; bad = rest.bad }
 
 -- the book that is chosen below a line
-abbrev pub book-after : Option BookName → Line → Option BookName
-book-after book Nothing = book
-book-after book (Chooses b) = Some b
-book-after book (Types t) = book
+abbrev pub book_after : Option BookName → Line → Option BookName
+book_after book Nothing = book
+book_after book (Chooses b) = Some b
+book_after book (Types t) = book
 
 -- the lines from number k on, under the book that is chosen so far
 abbrev pub reading : ℕ → Option BookName → List (List ℕ) → Reading
 reading k book [] = ended
 reading k book (l ∷ ls) =
-    elim (understood book l) [ None ↦ stopped k | Some x ↦ with-line k x (reading (suc k) (book-after book x) ls) ]
+    elim (understood book l) [ None ↦ stopped k | Some x ↦ with_line k x (reading (suc k) (book_after book x) ls) ]
 
 -- a script is at most 65,536 bytes; a longer one is bad at line 0
-abbrev pub script-reading : List ℕ → Reading
-script-reading text = cond (nat_le (length text) 65536) (reading 1 None (lines text)) (stopped 0)
+abbrev pub script_reading : List ℕ → Reading
+script_reading text = cond (nat_le (length text) 65536) (reading 1 None (lines text)) (stopped 0)
 
 -- what a script that was read holds
 abbrev pub contents : Script → Reading

@@ -1,8 +1,8 @@
 ghost use Rattle.std.specs.Prelude.{◌≡◌, Some, None, MatchOption};
 ghost use Rattle.std.specs.Str.{bytes_eq};
 ghost use Rattle.lexer.specs.Left.{words_left};
-ghost use Rattle.lexer.specs.Numerals.{typed-number};
-ghost use Rattle.script.specs.Grammar.{book-named, typed-procedure, first, none_left, choice, note-of, said, understood};
+ghost use Rattle.lexer.specs.Numerals.{number_typed};
+ghost use Rattle.script.specs.Grammar.{book_named, typed_procedure, first, none_left, choice, note_of, said, understood};
 
 use crate::line::{BookName, Line, TypedNote};
 use books::procedure_named;
@@ -19,7 +19,7 @@ fn spells(word: &[u8], text: &str) -> bool
 
 /// The book of a name.
 fn book_of(word: &[u8]) -> Option<BookName>
-    ensures value { result ≡ book-named word.now }
+    ensures value { result ≡ book_named word.now }
 {
     if spells(word, "ledger") {
         Some(BookName::Ledger)
@@ -32,7 +32,7 @@ fn book_of(word: &[u8]) -> Option<BookName>
 
 /// The procedure that a word names in the book, or else types as a number.
 fn procedure_of(book: BookName, word: &[u8]) -> Option<u64>
-    ensures value { result ≡ typed-procedure book word.now }
+    ensures value { result ≡ typed_procedure book word.now }
 {
     let named = match book {
         BookName::Ledger => procedure_named(&Ledger, word),
@@ -46,21 +46,21 @@ fn procedure_of(book: BookName, word: &[u8]) -> Option<u64>
 
 /// Takes the next word, which names a book.
 fn next_book(words: &mut Words) -> Option<BookName>
-    ensures takes_first { MatchOption result (first book-named (words_left words.old) ≡ None) (λ x. first book-named (words_left words.old) ≡ Some (x, words_left words.new)) }
+    ensures takes_first { MatchOption result (first book_named (words_left words.old) ≡ None) (λ x. first book_named (words_left words.old) ≡ Some (x, words_left words.new)) }
 {
     book_of(words.next_word()?)
 }
 
 /// Takes the next word, which names or numbers a procedure.
 fn next_procedure(book: BookName, words: &mut Words) -> Option<u64>
-    ensures takes_first { MatchOption result (first (typed-procedure book) (words_left words.old) ≡ None) (λ x. first (typed-procedure book) (words_left words.old) ≡ Some (x, words_left words.new)) }
+    ensures takes_first { MatchOption result (first (typed_procedure book) (words_left words.old) ≡ None) (λ x. first (typed_procedure book) (words_left words.old) ≡ Some (x, words_left words.new)) }
 {
     procedure_of(book, words.next_word()?)
 }
 
 /// Takes the next word, which types a number.
 fn next_number(words: &mut Words) -> Option<u64>
-    ensures takes_first { MatchOption result (first typed-number (words_left words.old) ≡ None) (λ x. first typed-number (words_left words.old) ≡ Some (x, words_left words.new)) }
+    ensures takes_first { MatchOption result (first number_typed (words_left words.old) ≡ None) (λ x. first number_typed (words_left words.old) ≡ Some (x, words_left words.new)) }
 {
     typed_number(words.next_word()?)
 }
@@ -86,7 +86,7 @@ fn choice_of(words: &mut Words) -> Option<Line>
 
 /// The rest of a line that begins with `note`.
 fn note_from(book: BookName, words: &mut Words) -> Option<Line>
-    ensures value { result ≡ note-of book (words_left words.old) }
+    ensures value { result ≡ note_of book (words_left words.old) }
 {
     let procedure = next_procedure(book, words)?;
     let a = next_number(words)?;

@@ -1,5 +1,7 @@
 // The script of `house`: a text that chooses a book and types notes. It is read up to its first bad line, and each
 // note is answered: made, or refused with number, layer, rule and place.
+#![tactic(auto)]
+
 mod grammar;
 mod line;
 mod reading;

@@ -1,5 +1,5 @@
 ghost use Rattle.std.specs.Prelude.{◌≡◌, IfOk};
-ghost use Rattle.script.specs.Reading.{script-reading, contents};
+ghost use Rattle.script.specs.Reading.{script_reading, contents};
 
 use crate::grammar::understand;
 use crate::line::{Command, Line};
@@ -12,7 +12,7 @@ const LONGEST: usize = 65_536;
 
 /// Reads a script up to its first bad line. It fails only for want of memory.
 pub fn read_script(heap: Global, text: &[u8]) -> Result<Script, AllocError>
-    ensures reads { IfOk result (λ s. contents s ≡ script-reading text.now) }
+    ensures reads { IfOk result (λ s. contents s ≡ script_reading text.now) }
 {
     let mut commands = Vec::new(heap);
     if text.len() > LONGEST {

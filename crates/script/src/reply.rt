@@ -1,5 +1,5 @@
 ghost use Rattle.std.specs.Prelude.{Some};
-ghost use Rattle.script.specs.Replies.{reply-text};
+ghost use Rattle.script.specs.Replies.{reply_text};
 
 use notes::Numbers;
 use refusals::Refusal;
@@ -14,7 +14,7 @@ pub struct Reply {
 
 /// One line that says what became of a line of the script.
 impl fmt::Display for Reply {
-    ghost output = { λ r. Some (reply-text r) };
+    ghost output = { λ r. Some (reply_text r) };
 
     fn fmt<W: fmt::Write>(&self, f: &mut fmt::Formatter<W>) -> fmt::Result {
         let line = self.line;

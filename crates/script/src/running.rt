@@ -1,7 +1,7 @@
 ghost use Rattle.std.specs.Prelude.{◌≡◌, map, IfOk};
 ghost use Rattle.notes.specs.Notes.{noted};
-ghost use Rattle.script.specs.Reading.{script-reading};
-ghost use Rattle.script.specs.Replies.{reply-to, replies};
+ghost use Rattle.script.specs.Reading.{script_reading};
+ghost use Rattle.script.specs.Replies.{reply_to, replies};
 
 use crate::line::{BookName, Command, TypedNote};
 use crate::reading::read_script;
@@ -15,7 +15,7 @@ use stock::Stock;
 
 /// Makes the typed note in a book.
 fn note_in<B: Book>(book: &B, typed: TypedNote) -> Result<Numbers, Refusal>
-    ensures value { result ≡ noted B.Book.meaning typed.procedure typed.a typed.b typed.amount }
+    ensures value { result ≡ noted B.meaning typed.procedure typed.a typed.b typed.amount }
 {
     let note = make_note(book, typed.procedure, typed.a, typed.b, typed.amount)?;
     Ok(note.numbers())
@@ -23,7 +23,7 @@ fn note_in<B: Book>(book: &B, typed: TypedNote) -> Result<Numbers, Refusal>
 
 /// Makes the note that a command types, or refuses it.
 pub fn answer_command(command: Command) -> Reply
-    ensures value { result ≡ reply-to command }
+    ensures value { result ≡ reply_to command }
 {
     let answer = match command.typed.book {
         BookName::Ledger => note_in(&Ledger, command.typed),
@@ -37,7 +37,7 @@ pub fn answer_command(command: Command) -> Reply
 
 /// Answers commands in their order. It fails only for want of memory.
 fn answer_all(heap: Global, commands: &[Command]) -> Result<Vec<Reply>, AllocError>
-    ensures answers { IfOk result (λ v. v.items ≡ map reply-to commands.now) }
+    ensures answers { IfOk result (λ v. v.items ≡ map reply_to commands.now) }
 {
     let mut answered = Vec::new(heap);
     for command in commands {
@@ -49,7 +49,7 @@ fn answer_all(heap: Global, commands: &[Command]) -> Result<Vec<Reply>, AllocErr
 /// Reads a script and answers it: a reply for each note up to the first bad line, and one for that line.
 /// It fails only for want of memory.
 pub fn run_script(heap: Global, text: &[u8]) -> Result<Vec<Reply>, AllocError>
-    ensures answers { IfOk result (λ v. v.items ≡ replies (script-reading text.now)) }
+    ensures answers { IfOk result (λ v. v.items ≡ replies (script_reading text.now)) }
 {
     let script = read_script(heap, text)?;
     let mut answered = answer_all(heap, script.commands.as_slice())?;

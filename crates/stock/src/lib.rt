@@ -1,10 +1,12 @@
 // The stock book: reels held and the most that each shelf takes, with their sums in item 0. `docs/BOOKS.md` has its
 // rules.
+#![tactic(auto)]
+
 ghost use Rattle.std.specs.Prelude.{◌≡◌};
-ghost use Rattle.stock.specs.Stock.{stock, stock-takes, shelf-ok, held, most, reels-code};
-ghost use Rattle.stock.specs.Shelf.{pair-after};
-ghost use Rattle.stock.specs.Stepping.{stock-tests, stock-gives-codes};
-ghost use Rattle.stock.specs.Keeping.{stock-keeps};
+ghost use Rattle.stock.specs.Stock.{stock, stock_takes, shelf_ok, held, most, reels_code};
+ghost use Rattle.stock.specs.Shelf.{pair_after};
+ghost use Rattle.stock.specs.Stepping.{stock_tests, stock_gives_codes};
+ghost use Rattle.stock.specs.Keeping.{stock_keeps};
 ghost use Rattle.std.proofs.Common.{rules};
 
 use books::Book;
@@ -40,28 +42,28 @@ fn reels_of(code: u64) -> Reels
 
 /// The code of a pair.
 fn code_of(reels: Reels) -> u64
-    ensures value { result ≡ reels-code reels.held reels.most }
+    ensures value { result ≡ reels_code reels.held reels.most }
 {
     u64::from(reels.held) + u64::from(reels.most) * (1 << 32)
 }
 
 /// Whether a shelf holds no more than its most, and that is no more than any shelf may have.
 fn in_order(reels: Reels) -> bool
-    ensures value { result ≡ shelf-ok reels.held reels.most }
+    ensures value { result ≡ shelf_ok reels.held reels.most }
 {
     reels.held <= reels.most && reels.most <= LARGEST
 }
 
 /// Whether the procedure takes these two items.
 fn takes(procedure: u64, a: u64, b: u64) -> bool
-    ensures value { result ≡ stock-takes procedure a b }
+    ensures value { result ≡ stock_takes procedure a b }
 {
     1 <= procedure && procedure <= PROCEDURES && 1 <= a && a <= 63 && b == 0
 }
 
 /// What a procedure leaves of a pair, unless a half would leave its 32 bits.
 fn worked(procedure: u64, reels: Reels, amount: u32) -> Option<Reels>
-    ensures value { result ≡ pair-after procedure reels.held reels.most amount }
+    ensures value { result ≡ pair_after procedure reels.held reels.most amount }
 {
     match procedure {
         1 => {
@@ -108,11 +110,11 @@ impl Book for Stock {
 
     ghost proper_words = { Prim.search rules };
 
-    ghost step_tests = { stock-tests };
+    ghost step_tests = { stock_tests };
 
-    ghost step_gives_codes = { stock-gives-codes };
+    ghost step_gives_codes = { stock_gives_codes };
 
-    ghost step_keeps_valid = { stock-keeps };
+    ghost step_keeps_valid = { stock_keeps };
 
     ghost one_code_each = { Prim.search rules };
 

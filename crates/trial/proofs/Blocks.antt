@@ -5,27 +5,27 @@ use Rattle.std.proofs.lemmas.List.FromFn.{length-map-range_with_len, get_or-map-
 use Rattle.std.proofs.lemmas.Slice.{between_is, take-put_mid_below, drop-put_mid, between-put_mid}
 use Rattle.std.proofs.lemmas.List.{length-set, length-take, length-drop, length-append, drop-drop, get_or-set_same, get_or-set_other, ext_get_or}
 use Rattle.std.proofs.lemmas.Bool.{cases_eq, cases_lt}
-use Rattle.trial.specs.Bytes.{blocks-of, with-block}
+use Rattle.trial.specs.Bytes.{blocks_of, with_block}
 
 -- the bytes hold a block for every 64 of them
-pub length-blocks : (bs : List ℕ) → length (blocks-of bs) ≡ length bs / 64
-unfolding blocks-of
-length-blocks bs = length-map-range_with_len (λ k. take 64 (drop (64 * k) bs)) 0 (length bs / 64)
+pub length_blocks : (bs : List ℕ) → length (blocks_of bs) ≡ length bs / 64
+unfolding blocks_of
+length_blocks bs = length-map-range_with_len (λ k. take 64 (drop (64 * k) bs)) 0 (length bs / 64)
 
 -- block k is the 64 bytes from 64 * k on
-pub block_at : (bs : List ℕ) (k : ℕ) (d : List ℕ) → k < length bs / 64 → get_or (blocks-of bs) k d ≡ take 64 (drop (64 * k) bs)
-unfolding blocks-of
+pub block_at : (bs : List ℕ) (k : ℕ) (d : List ℕ) → k < length bs / 64 → get_or (blocks_of bs) k d ≡ take 64 (drop (64 * k) bs)
+unfolding blocks_of
 block_at bs k d h = get_or-map-range_with_len (λ k. take 64 (drop (64 * k) bs)) 0 (length bs / 64) k k d h (omega arith)
 
 -- the replaced block as the overwritten part of a slice
-pub with-put : (bs : List ℕ) (b : ℕ) (x : List ℕ) → put_mid (64 * b) 64 bs x ≡ with-block bs b x
-with-put bs b x = ap (λ y. take (64 * b) bs ++ (x ++ y)) (drop-drop 64 (64 * b) bs)
+pub with_put : (bs : List ℕ) (b : ℕ) (x : List ℕ) → put_mid (64 * b) 64 bs x ≡ with_block bs b x
+with_put bs b x = ap (λ y. take (64 * b) bs ++ (x ++ y)) (drop-drop 64 (64 * b) bs)
 
 -- a write of block b, which is in the drive, of 64 bytes
 module _ (bs : List ℕ) (b : ℕ) (x : List ℕ) (within : b < length bs / 64) (full : length x ≡ 64) where
   -- it leaves as many bytes as there were
-  length-with : length (with-block bs b x) ≡ length bs
-  length-with = simp (length-append, length-take, length-drop) (omega arith)
+  length_with : length (with_block bs b x) ≡ length bs
+  length_with = simp (length-append, length-take, length-drop) (omega arith)
 
   -- the bytes after it
   abbrev after : List ℕ
@@ -50,15 +50,15 @@ module _ (bs : List ℕ) (b : ℕ) (x : List ℕ) (within : b < length bs / 64) 
       subst (λ n. take n (drop (64 * b) after) ≡ x) n (between-put_mid (64 * b) 64 bs x (64 * b + 64) (omega arith) (omega arith))
 
   -- so the blocks are those that were, with block b replaced
-  pub blocks-with : blocks-of (with-block bs b x) ≡ set (blocks-of bs) b x
-  blocks-with =
-      let cs = with-block bs b x in
-      ext_get_or [] (blocks-of cs) (set (blocks-of bs) b x)
-      (length-blocks cs ∙ ap (λ n. n / 64) length-with ∙ sym (length-blocks bs) ∙ sym (length-set (blocks-of bs) b x))
-      (λ k h. let m : k < length cs / 64 = omega (arith, length-blocks cs) in
-      let n : k < length bs / 64 = subst (λ z. k < z / 64) length-with m in
-      block_at cs k [] m ∙ ap (λ y. take 64 (drop (64 * k) y)) (sym (with-put bs b x)) ∙
+  pub blocks_with : blocks_of (with_block bs b x) ≡ set (blocks_of bs) b x
+  blocks_with =
+      let cs = with_block bs b x in
+      ext_get_or [] (blocks_of cs) (set (blocks_of bs) b x)
+      (length_blocks cs ∙ ap (λ n. n / 64) length_with ∙ sym (length_blocks bs) ∙ sym (length-set (blocks_of bs) b x))
+      (λ k h. let m : k < length cs / 64 = omega (arith, length_blocks cs) in
+      let n : k < length bs / 64 = subst (λ z. k < z / 64) length_with m in
+      block_at cs k [] m ∙ ap (λ y. take 64 (drop (64 * k) y)) (sym (with_put bs b x)) ∙
       elim (cases_eq k b) [
-        | inl z ↦ rw z (own_block ∙ sym (get_or-set_same (blocks-of bs) b x [] (omega (arith, length-blocks bs))))
-        | inr ne ↦ other_block k ne ∙ sym (block_at bs k [] n) ∙ sym (get_or-set_other (blocks-of bs) b k x [] ne)
+        | inl z ↦ rw z (own_block ∙ sym (get_or-set_same (blocks_of bs) b x [] (omega (arith, length_blocks bs))))
+        | inr ne ↦ other_block k ne ∙ sym (block_at bs k [] n) ∙ sym (get_or-set_other (blocks_of bs) b k x [] ne)
       ])

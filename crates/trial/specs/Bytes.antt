@@ -5,13 +5,13 @@ use Rattle.std.specs.Str.{bytes_eq}
 use Rattle.drives.specs.Disk.{Disk}
 
 -- the blocks that the bytes hold: their number divided by 64, rounded down
-unfoldable pub blocks-of : List ℕ → List (List ℕ)
-blocks-of bs = map (λ k. take 64 (drop (64 * k) bs)) (range_with_len 0 (length bs / 64))
+unfoldable pub blocks_of : List ℕ → List (List ℕ)
+blocks_of bs = map (λ k. take 64 (drop (64 * k) bs)) (range_with_len 0 (length bs / 64))
 
 -- the bytes with block k replaced, and all others as they were
-abbrev pub with-block : List ℕ → ℕ → List ℕ → List ℕ
-with-block bs k x = take (64 * k) bs ++ (x ++ drop (64 * k + 64) bs)
+abbrev pub with_block : List ℕ → ℕ → List ℕ → List ℕ
+with_block bs k x = take (64 * k) bs ++ (x ++ drop (64 * k + 64) bs)
 
 -- the drive that the bytes are: what a block holds is the only content that may stand
-abbrev pub disk-of : Bool → List ℕ → Disk
-disk-of on bs = record { on = on; blocks = blocks-of bs; may = λ i x. bytes_eq x (slice_index_or (blocks-of bs) i []) }
+abbrev pub disk_of : Bool → List ℕ → Disk
+disk_of on bs = record { on = on; blocks = blocks_of bs; may = λ i x. bytes_eq x (slice_index_or (blocks_of bs) i []) }

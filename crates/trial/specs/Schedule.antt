@@ -6,17 +6,17 @@ use Rattle.trial.specs.declared.fuse.Turn.{Turn}
 use Rattle.trial.specs.declared.fuse.Turn.TheVariants.{Done, Lost}
 
 -- the number modulo 32,768 is how many are done; from 32,768 on a write that fails lands
-abbrev pub fuse-of : ℕ → Fuse
-fuse-of cut = After (cut % 32768) (nat_le 32768 cut)
+abbrev pub fuse_of : ℕ → Fuse
+fuse_of cut = After (cut % 32768) (nat_le 32768 cut)
 
 -- a power call takes the next cut number; with none left, power never fails again
-abbrev pub next-fuse : List ℕ → Fuse
-next-fuse [] = Never
-next-fuse (cut ∷ cuts) = fuse-of cut
+abbrev pub next_fuse : List ℕ → Fuse
+next_fuse [] = Never
+next_fuse (cut ∷ cuts) = fuse_of cut
 
-abbrev pub cuts-left : List ℕ → List ℕ
-cuts-left [] = []
-cuts-left (cut ∷ cuts) = cuts
+abbrev pub cuts_left : List ℕ → List ℕ
+cuts_left [] = []
+cuts_left (cut ∷ cuts) = cuts
 
 -- how a write or a flush goes, and what is left of the fuse
 abbrev pub turn : Fuse → Turn

@@ -2,8 +2,8 @@
 use Rattle.std.specs.Prelude.{ℕ, ◌/◌, Bool, true, false, cond, List, length, take, Some, None, Ok, Err, Option, Result, ◌==◌, nat_lt, slice_index_or}
 use Rattle.drives.specs.declared.DriveFault.{DriveFault}
 use Rattle.drives.specs.declared.DriveFault.TheVariants.{Off, NoSuchBlock, BadBuffer, PowerLost}
-use Rattle.trial.specs.Bytes.{blocks-of, with-block}
-use Rattle.trial.specs.Schedule.{turn, burnt, next-fuse, cuts-left}
+use Rattle.trial.specs.Bytes.{blocks_of, with_block}
+use Rattle.trial.specs.Schedule.{turn, burnt, next_fuse, cuts_left}
 use Rattle.trial.specs.declared.fuse.Fuse.{Fuse}
 use Rattle.trial.specs.declared.fuse.Fuse.TheVariants.{Never}
 use Rattle.trial.specs.declared.fuse.Turn.{Turn}
@@ -17,8 +17,8 @@ pub record State : Type 0 where
   pub cuts : List ℕ
   pub fuse : Fuse
 
-abbrev pub state-of : TrialDrive → State
-state-of t = record { bytes = t.bytes.now; on = t.on; cuts = t.cuts.now; fuse = t.fuse }
+abbrev pub state_of : TrialDrive → State
+state_of t = record { bytes = t.bytes.now; on = t.on; cuts = t.cuts.now; fuse = t.fuse }
 
 -- a new trial drive is off, and takes the first 16 of the cut numbers
 abbrev pub fresh : List ℕ → List ℕ → State
@@ -43,46 +43,46 @@ abbrev pub read_answer : Option DriveFault → Result (Unit {0}) DriveFault
 read_answer None = Ok tt
 read_answer (Some e) = Err e
 
-abbrev pub read-buffer : Option DriveFault → State → ℕ → List ℕ → List ℕ
-read-buffer None s b buffer = slice_index_or (blocks-of s.bytes) b buffer
-read-buffer (Some e) s b buffer = buffer
+abbrev pub read_buffer : Option DriveFault → State → ℕ → List ℕ → List ℕ
+read_buffer None s b buffer = slice_index_or (blocks_of s.bytes) b buffer
+read_buffer (Some e) s b buffer = buffer
 
 -- a write that is done or loses power; one that loses power leaves the new content exactly if it lands
-abbrev pub write-by : Turn → State → ℕ → List ℕ → Outcome
-write-by Done s b x = record {
+abbrev pub write_by : Turn → State → ℕ → List ℕ → Outcome
+write_by Done s b x = record {
   answer = Ok tt;
-  state = record { bytes = with-block s.bytes b x; on = true; cuts = s.cuts; fuse = burnt s.fuse };
+  state = record { bytes = with_block s.bytes b x; on = true; cuts = s.cuts; fuse = burnt s.fuse };
 }
-write-by (Lost true) s b x = record {
+write_by (Lost true) s b x = record {
   answer = Err PowerLost;
-  state = record { bytes = with-block s.bytes b x; on = false; cuts = s.cuts; fuse = burnt s.fuse };
+  state = record { bytes = with_block s.bytes b x; on = false; cuts = s.cuts; fuse = burnt s.fuse };
 }
-write-by (Lost false) s b x = record {
+write_by (Lost false) s b x = record {
   answer = Err PowerLost;
   state = record { bytes = s.bytes; on = false; cuts = s.cuts; fuse = burnt s.fuse };
 }
 
-abbrev pub write-unless : Option DriveFault → State → ℕ → List ℕ → Outcome
-write-unless None s b x = write-by (turn s.fuse) s b x
-write-unless (Some e) s b x = refused e s
+abbrev pub write_unless : Option DriveFault → State → ℕ → List ℕ → Outcome
+write_unless None s b x = write_by (turn s.fuse) s b x
+write_unless (Some e) s b x = refused e s
 
 abbrev pub write : State → ℕ → List ℕ → Outcome
-write s b x = write-unless (fault s b (length x)) s b x
+write s b x = write_unless (fault s b (length x)) s b x
 
 -- a flush that is done or loses power: either way every block holds what it held
-abbrev pub flush-by : Turn → State → Outcome
-flush-by Done s = record {
+abbrev pub flush_by : Turn → State → Outcome
+flush_by Done s = record {
   answer = Ok tt;
   state = record { bytes = s.bytes; on = true; cuts = s.cuts; fuse = burnt s.fuse };
 }
-flush-by (Lost lands) s = record {
+flush_by (Lost lands) s = record {
   answer = Err PowerLost;
   state = record { bytes = s.bytes; on = false; cuts = s.cuts; fuse = burnt s.fuse };
 }
 
 abbrev pub flush : State → Outcome
-flush s = cond s.on (flush-by (turn s.fuse) s) (refused Off s)
+flush s = cond s.on (flush_by (turn s.fuse) s) (refused Off s)
 
 -- a power call is always done
 abbrev pub power : State → State
-power s = record { bytes = s.bytes; on = true; cuts = cuts-left s.cuts; fuse = next-fuse s.cuts }
+power s = record { bytes = s.bytes; on = true; cuts = cuts_left s.cuts; fuse = next_fuse s.cuts }

@@ -1,7 +1,7 @@
 ghost use Rattle.std.specs.Prelude.{◌≡◌, ◌/◌, ◌<◌, length, slice_index_or};
-ghost use Rattle.trial.specs.Bytes.{blocks-of, with-block};
+ghost use Rattle.trial.specs.Bytes.{blocks_of, with_block};
 ghost use Rattle.trial.specs.Schedule.{turn, burnt};
-ghost use Rattle.trial.specs.State.{state-of, fresh, fault, read_answer, read-buffer, write, flush, power};
+ghost use Rattle.trial.specs.State.{state_of, fresh, fault, read_answer, read_buffer, write, flush, power};
 
 use crate::drive::TrialDrive;
 use crate::fuse::{Fuse, Turn};
@@ -14,7 +14,7 @@ const MOST_CUTS: usize = 16;
 fn store(bytes: &mut [u8], block: usize, content: &[u8])
     requires within { block < length bytes.old / 64 }
     requires full { length content.now ≡ 64 }
-    ensures after { bytes.new ≡ with-block bytes.old block content.now }
+    ensures after { bytes.new ≡ with_block bytes.old block content.now }
 {
     let at = 64 * block;
     bytes[at..at + 64].copy_from_slice(content);
@@ -24,7 +24,7 @@ fn store(bytes: &mut [u8], block: usize, content: &[u8])
 fn fetch(bytes: &[u8], block: usize, buffer: &mut [u8])
     requires within { block < length bytes.now / 64 }
     requires full { length buffer.old ≡ 64 }
-    ensures after { buffer.new ≡ slice_index_or (blocks-of bytes.now) block buffer.old }
+    ensures after { buffer.new ≡ slice_index_or (blocks_of bytes.now) block buffer.old }
 {
     let at = 64 * block;
     buffer.copy_from_slice(&bytes[at..at + 64]);
@@ -33,7 +33,7 @@ fn fetch(bytes: &[u8], block: usize, buffer: &mut [u8])
 impl<'a> TrialDrive<'a> {
     /// A drive over the bytes, off, that takes the first 16 of the cut numbers.
     pub fn over(bytes: &'a mut [u8], cuts: &'a [u16]) -> TrialDrive<'a>
-        ensures state { state-of result ≡ fresh bytes.old cuts.now }
+        ensures state { state_of result ≡ fresh bytes.old cuts.now }
     {
         let taken = if cuts.len() > MOST_CUTS {
             &cuts[0..MOST_CUTS]
@@ -50,7 +50,7 @@ impl<'a> TrialDrive<'a> {
 
     /// Which test of read and write fails first.
     fn fault_of(&self, block: u64, length_given: usize) -> Option<DriveFault>
-        ensures value { result ≡ fault (state-of self.now) block length_given }
+        ensures value { result ≡ fault (state_of self.now) block length_given }
     {
         if !self.on {
             return Some(DriveFault::Off);
@@ -87,8 +87,8 @@ impl<'a> TrialDrive<'a> {
 
     /// Hands out what a block holds.
     pub fn read_block(&self, block: u64, buffer: &mut [u8]) -> Result<(), DriveFault>
-        ensures answer { result ≡ read_answer (fault (state-of self.now) block (length buffer.old)) }
-        ensures buffer { buffer.new ≡ read-buffer (fault (state-of self.now) block (length buffer.old)) (state-of self.now) block buffer.old }
+        ensures answer { result ≡ read_answer (fault (state_of self.now) block (length buffer.old)) }
+        ensures buffer { buffer.new ≡ read_buffer (fault (state_of self.now) block (length buffer.old)) (state_of self.now) block buffer.old }
     {
         if let Some(e) = self.fault_of(block, buffer.len()) {
             return Err(e);
@@ -99,8 +99,8 @@ impl<'a> TrialDrive<'a> {
 
     /// Writes a block, or loses power.
     pub fn write_block(&mut self, block: u64, content: &[u8]) -> Result<(), DriveFault>
-        ensures answer { result ≡ (write (state-of self.old) block content.now).answer }
-        ensures state { state-of self.new ≡ (write (state-of self.old) block content.now).state }
+        ensures answer { result ≡ (write (state_of self.old) block content.now).answer }
+        ensures state { state_of self.new ≡ (write (state_of self.old) block content.now).state }
     {
         if let Some(e) = self.fault_of(block, content.len()) {
             return Err(e);
@@ -122,8 +122,8 @@ impl<'a> TrialDrive<'a> {
 
     /// Flushes, or loses power.
     pub fn flush_blocks(&mut self) -> Result<(), DriveFault>
-        ensures answer { result ≡ (flush (state-of self.old)).answer }
-        ensures state { state-of self.new ≡ (flush (state-of self.old)).state }
+        ensures answer { result ≡ (flush (state_of self.old)).answer }
+        ensures state { state_of self.new ≡ (flush (state_of self.old)).state }
     {
         if !self.on {
             return Err(DriveFault::Off);
@@ -139,7 +139,7 @@ impl<'a> TrialDrive<'a> {
 
     /// Turns power off and on again, and takes the next cut number.
     pub fn turn_on(&mut self)
-        ensures state { state-of self.new ≡ power (state-of self.old) }
+        ensures state { state_of self.new ≡ power (state_of self.old) }
     {
         self.on = true;
         if self.cuts.is_empty() {

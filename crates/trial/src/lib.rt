@@ -1,5 +1,7 @@
 // The trial drive: a drive over handed bytes that loses power exactly where its cut numbers say. What each call does
 // is a definition, in specs/State.antt; that it keeps the meaning of a drive follows from that.
+#![tactic(auto)]
+
 mod calls;
 mod drive;
 mod fuse;

@@ -1,11 +1,11 @@
-ghost use Rattle.trial.specs.Bytes.{disk-of};
+ghost use Rattle.trial.specs.Bytes.{disk_of};
 
 use crate::drive::TrialDrive;
 use drives::{Drive, DriveFault};
 
 /// The trial drive keeps the meaning of a drive.
 impl<'a> Drive for TrialDrive<'a> {
-    ghost disk = { λ t. disk-of t.on t.bytes.now };
+    ghost disk = { λ t. disk_of t.on t.bytes.now };
 
     fn size(&self) -> u64 {
         (self.bytes.len() / 64) as u64

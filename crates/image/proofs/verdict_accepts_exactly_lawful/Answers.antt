@@ -1,5 +1,5 @@
-use Rattle.image.proofs.Accepting.{accepts-exactly-lawful}
+use Rattle.image.proofs.Accepting.{accepts_exactly_lawful}
 use Rattle.image.proofs.verdict_accepts_exactly_lawful.Goals as goal
 
 pub returns : goal.returns
-returns c = record { holds = accepts-exactly-lawful }
+returns c = record { holds = accepts_exactly_lawful }

@@ -2,15 +2,15 @@ use Rattle.std.proofs.Common.{◌<◌, ◌≤◌, true, false, length, sym, ◌�
 use Rattle.books.proofs.Naming.{named_step, named_end}
 use Rattle.books.proofs.words.procedure_named.Goals as goal
 
-pub returns-then-is-word-of : goal.returns-then-is-word-of
-returns-then-is-word-of g c =
+pub returns-then-is_word_of : goal.returns-then-is_word_of
+returns-then-is_word_of g c =
     let l : c.loop-place.place < length g.B.Book.meaning.words = omega (arith, c.procedures-place-end.ensures.value) in
-    record { value = sym (named_step g.B.Book.meaning.words c.loop-place.place c.args.word.now true l c.if-is-word-of.ensures.value) ∙ c.loop-place.invariant }
+    record { value = sym (named_step g.B.Book.meaning.words c.loop-place.place c.args.word.now true l c.if-is_word_of.ensures.value) ∙ c.loop-place.invariant }
 
 pub loop-place-preserved : goal.loop-place-preserved
 loop-place-preserved g c =
     let l : c.loop-place.place < length g.B.Book.meaning.words = omega (arith, c.procedures-place-end.ensures.value) in
-    sym (named_step g.B.Book.meaning.words c.loop-place.place c.args.word.now false l c.if-is-word-of.ensures.value) ∙ c.loop-place.invariant
+    sym (named_step g.B.Book.meaning.words c.loop-place.place c.args.word.now false l c.if-is_word_of.ensures.value) ∙ c.loop-place.invariant
 
 pub returns : goal.returns
 returns g c =

@@ -9,5 +9,5 @@ loop-i-preserved g c = (
   below_more _ _
       (λ k h. let ne : k ≢ c.loop-i.i = omega arith in rw get_or-set_other (c.loop-i.invariant.1 k h))
       (let lt : c.loop-i.i < length c.loop-i.contents = omega (arith, c.loop-i.invariant.0) in
-      rw get_or-set_same (c.in-ok-read.ensures.reads.met c.requires.on (omega (arith, c.requires.wide, c.requires.few, c.loop-i-test.true)) refl)),
+      rw get_or-set_same (c.in_ok-read.ensures.reads.met c.requires.on (omega (arith, c.requires.wide, c.requires.few, c.loop-i-test.true)) refl)),
 )

@@ -1,35 +1,33 @@
-use Rattle.std.proofs.Common.{◌≡◌, ◌-◌, sym, ap, ◌∙◌, arith}
+use Rattle.std.proofs.Common.{◌-◌, ap, ◌∙◌}
 use Rattle.std.proofs.lemmas.Result.{err_from_is_err_and}
-use Rattle.std.proofs.lemmas.Bool.{and_parts, leb-true}
-use Rattle.drives.specs.Disk.{size}
 use Rattle.journals.specs.Redo.{home}
-use Rattle.carrying.specs.Standing.{standing-of}
+use Rattle.carrying.specs.Standing.{standing_of}
 use Rattle.image.specs.Verdict.{judged}
-use Rattle.judging.proofs.Starting.{lawful-wide}
-use Rattle.judging.proofs.Chaining.{opening-refused, record-refused, all-compared}
+use Rattle.judging.proofs.Starting.{lawful_wide}
+use Rattle.judging.proofs.Chaining.{opening_refused, record_refused, all_compared}
 use Rattle.judging.proofs.judge.judge.Goals as goal
 
-pub read-blocks-requires : goal.read-blocks-requires
-read-blocks-requires g c = record { on = c.requires.on; wide = lawful-wide _ c.requires.lawful }
+pub read_blocks-requires : goal.read_blocks-requires
+read_blocks-requires g c = record { on = c.requires.on; wide = lawful_wide _ c.requires.lawful }
 
 -- the opening is not valid
-pub returns-in-err-held : goal.returns-in-err-held
-returns-in-err-held g c =
+pub returns-in_err-held : goal.returns-in_err-held
+returns-in_err-held g c =
     let h = home (g.D.Drive.disk c.args.journal.now.drive).blocks in
-    let p = err_from_is_err_and c.from-residual-in-err-held.result c.from-residual-in-err-held.ensures.1 in
-    let refused = opening-refused g.B.Book.meaning (c.size-room.result - 34) h c.in-ok-read-home.field-0 c.in-ok-head.head c.in-ok-read-home.ensures.found c.in-ok-head.ensures.value c.in-ok-read-blocks.field-0 c.in-ok-read-blocks.ensures.found _ c.in-err-held.ensures.value in
+    let p = err_from_is_err_and c.from_residual-in_err-held.result c.from_residual-in_err-held.ensures.1 in
+    let refused = opening_refused g.B.Book.meaning (c.size-room.result - 34) h c.in_ok-read_home.field-0 c.in_ok-head.head c.in_ok-read_home.ensures.found c.in_ok-head.ensures.value c.in_ok-read_blocks.field-0 c.in_ok-read_blocks.ensures.found _ c.in_err-held.ensures.value in
     record { value = rw (p.1, p.2) (refused ∙ ap (λ z. judged g.B.Book.meaning (z - 34) h) c.size-room.ensures.value) }
 
 -- a record is not lawful
-pub returns-in-err-replay : goal.returns-in-err-replay
-returns-in-err-replay g c =
+pub returns-in_err-replay : goal.returns-in_err-replay
+returns-in_err-replay g c =
     let h = home (g.D.Drive.disk c.args.journal.now.drive).blocks in
-    let p = err_from_is_err_and c.from-residual-in-err-replay.result c.from-residual-in-err-replay.ensures.1 in
-    let refused = record-refused g.B.Book.meaning (c.size-room.result - 34) h c.in-ok-read-home.field-0 c.in-ok-head.head c.in-ok-read-home.ensures.found c.in-ok-head.ensures.value c.in-ok-read-blocks.field-0 c.in-ok-read-blocks.ensures.found (standing-of c.in-ok-held.held) c.in-ok-held.ensures.value _ c.in-err-replay.ensures.value in
+    let p = err_from_is_err_and c.from_residual-in_err-replay.result c.from_residual-in_err-replay.ensures.1 in
+    let refused = record_refused g.B.Book.meaning (c.size-room.result - 34) h c.in_ok-read_home.field-0 c.in_ok-head.head c.in_ok-read_home.ensures.found c.in_ok-head.ensures.value c.in_ok-read_blocks.field-0 c.in_ok-read_blocks.ensures.found (standing_of c.in_ok-held.held) c.in_ok-held.ensures.value _ c.in_err-replay.ensures.value in
     record { value = rw (p.1, p.2) (refused ∙ ap (λ z. judged g.B.Book.meaning (z - 34) h) c.size-room.ensures.value) }
 
 -- all that is left is the comparison
 pub returns : goal.returns
 returns g c =
     let h = home (g.D.Drive.disk c.args.journal.now.drive).blocks in
-    record { value = all-compared g.B.Book.meaning (c.size-room.result - 34) h c.in-ok-read-home.field-0 c.in-ok-head.head c.in-ok-read-home.ensures.found c.in-ok-head.ensures.value c.in-ok-read-blocks.field-0 c.in-ok-read-blocks.ensures.found (standing-of c.in-ok-held.held) c.in-ok-held.ensures.value (standing-of c.replay.new.held) c.compare.result c.in-ok-replay.ensures.value c.compare.ensures.value ∙ ap (λ z. judged g.B.Book.meaning (z - 34) h) c.size-room.ensures.value }
+    record { value = all_compared g.B.Book.meaning (c.size-room.result - 34) h c.in_ok-read_home.field-0 c.in_ok-head.head c.in_ok-read_home.ensures.found c.in_ok-head.ensures.value c.in_ok-read_blocks.field-0 c.in_ok-read_blocks.ensures.found (standing_of c.in_ok-held.held) c.in_ok-held.ensures.value (standing_of c.replay.new.held) c.compare.result c.in_ok-replay.ensures.value c.compare.ensures.value ∙ ap (λ z. judged g.B.Book.meaning (z - 34) h) c.size-room.ensures.value }

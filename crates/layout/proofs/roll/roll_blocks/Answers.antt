@@ -7,6 +7,6 @@ pub returns : goal.returns
 returns c =
     let roll = c.args.roll.now in
     record {
-      first = c.copy-from-slice.ensures.after;
-      last = c.copy-from-slice-2.ensures.after ∙ take_all 64 (drop 64 roll) (simp length-drop (omega (arith, c.told-roll)));
+      first = c.copy_from_slice.ensures.after;
+      last = c.copy_from_slice-2.ensures.after ∙ take_all 64 (drop 64 roll) (simp length-drop (omega (arith, c.told-roll)));
     }

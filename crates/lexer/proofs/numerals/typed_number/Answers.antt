@@ -3,35 +3,35 @@ use Rattle.std.proofs.lemmas.List.{at_drop_all}
 use Rattle.std.proofs.lemmas.Bool.Decides.{nat_tests}
 use Rattle.lists.specs.Every.{all}
 use Rattle.lexer.specs.Numerals.{digit}
-use Rattle.lists.proofs.Elements.{all-drop-more}
-use Rattle.lexer.proofs.Values.{value_after, value-drop-more, value-drop-least}
+use Rattle.lists.proofs.Elements.{all_drop_more}
+use Rattle.lexer.proofs.Values.{value_after, value_drop_more, value_drop_least}
 use Rattle.lexer.proofs.numerals.typed_number.Goals as goal
 
 -- a byte that is no digit
 pub returns-then-byte-lt48 : goal.returns-then-byte-lt48
 returns-then-byte-lt48 c =
-    let d = all-drop-more digit c.args.word.now c.loop-byte.byte-index 0 c.loop-byte-test.true in
+    let d = all_drop_more digit c.args.word.now c.loop-byte.byte-index 0 c.loop-byte-test.true in
     record { value = grind (arith, nat_tests) }
 
 -- ten times the value so far is too much, and the rest makes no less of it
-pub returns-in-err-checked-mul : goal.returns-in-err-checked-mul
-returns-in-err-checked-mul c =
-    let v = value-drop-least c.loop-byte.value c.args.word.now c.loop-byte.byte-index c.loop-byte-test.true in
-    record { value = grind (arith, nat_tests, c.in-err-checked-mul.ensures) }
+pub returns-in_err-checked_mul : goal.returns-in_err-checked_mul
+returns-in_err-checked_mul c =
+    let v = value_drop_least c.loop-byte.value c.args.word.now c.loop-byte.byte-index c.loop-byte-test.true in
+    record { value = grind (arith, nat_tests, c.in_err-checked_mul.ensures) }
 
 -- with the next digit it is too much
-pub returns-in-err-value : goal.returns-in-err-value
-returns-in-err-value c =
-    let v = value-drop-least c.loop-byte.value c.args.word.now c.loop-byte.byte-index c.loop-byte-test.true in
-    record { value = grind (arith, nat_tests, c.in-err-value.ensures) }
+pub returns-in_err-value : goal.returns-in_err-value
+returns-in_err-value c =
+    let v = value_drop_least c.loop-byte.value c.args.word.now c.loop-byte.byte-index c.loop-byte-test.true in
+    record { value = grind (arith, nat_tests, c.in_err-value.ensures) }
 
 -- a digit with which the value still fits
 pub loop-byte-preserved : goal.loop-byte-preserved
 loop-byte-preserved c =
-    let d = all-drop-more digit c.args.word.now c.loop-byte.byte-index 0 c.loop-byte-test.true in
-    let v = value-drop-more c.loop-byte.value c.args.word.now c.loop-byte.byte-index c.loop-byte-test.true in
-    let times = c.in-ok-checked-mul.ensures in
-    let plus = c.in-ok-value.ensures in
+    let d = all_drop_more digit c.args.word.now c.loop-byte.byte-index 0 c.loop-byte-test.true in
+    let v = value_drop_more c.loop-byte.value c.args.word.now c.loop-byte.byte-index c.loop-byte-test.true in
+    let times = c.in_ok-checked_mul.ensures in
+    let plus = c.in_ok-value.ensures in
     (grind (arith, nat_tests), grind arith, omega arith)
 
 -- at the end nothing is left

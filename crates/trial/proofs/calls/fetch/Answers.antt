@@ -9,7 +9,7 @@ returns c =
     let bs = c.args.bytes.now in
     let n : 64 * b + 64 - 64 * b ≡ 64 = omega arith in
     record {
-      after = c.copy-from-slice.ensures.after
+      after = c.copy_from_slice.ensures.after
           ∙ ap (λ n. take n (drop (64 * b) bs)) n
           ∙ sym (block_at bs b c.args.buffer.now c.requires.within);
     }

@@ -26,46 +26,32 @@ module _ (ns : List ℕ) (n b : ℕ) where
       ]
 
   -- none of them is below 7
-  from-seven : n < length ns → ((i : ℕ) → i < n → 7 ≤ get_or ns i 0) → 7 ≤ b → (i : ℕ) → i < n + 1 → 7 ≤ get_or (set ns n b) i 0
-  from-seven len f x i h =
+  from_seven : n < length ns → ((i : ℕ) → i < n → 7 ≤ get_or ns i 0) → 7 ≤ b → (i : ℕ) → i < n + 1 → 7 ≤ get_or (set ns n b) i 0
+  from_seven len f x i h =
       elim (cases_eq i n) [
         | inl e ↦ omega (arith, get_or-set_same ns n b 0 len, ap (λ m. get_or (set ns n b) m 0) e)
         | inr ne ↦ omega (arith, there i ne, f i (omega arith))
       ]
 
   -- two bytes hold each of them
-  in-two-bytes : n < length ns → ((i : ℕ) → get_or ns i 0 < 65536) → b < 65536 → (i : ℕ) → get_or (set ns n b) i 0 < 65536
-  in-two-bytes len f x i =
+  in_two_bytes : n < length ns → ((i : ℕ) → get_or ns i 0 < 65536) → b < 65536 → (i : ℕ) → get_or (set ns n b) i 0 < 65536
+  in_two_bytes len f x i =
       elim (cases_eq i n) [
         | inl e ↦ omega (arith, get_or-set_same ns n b 0 len, ap (λ m. get_or (set ns n b) m 0) e)
         | inr ne ↦ omega (arith, there i ne, f i)
       ]
 
-pub invariant-of-self : goal.invariant-of-self
-invariant-of-self c =
+pub invariant_of-self : goal.invariant_of-self
+invariant_of-self c =
     let s = c.args.self.now in
-    let few : s.count < length s.numbers = omega arith in (
-      omega arith,
-      (
-        omega arith,
-        (
-          length-set s.numbers s.count _ ∙ s.six_numbers,
-          (
-            length-set s.contents s.count _ ∙ s.six_contents,
-            (
-              rises s.numbers s.count c.args.block few s.rise (below s.numbers s.count c.args.block s.some s.rise c.if-self-n.false),
-              (
-                from-seven s.numbers s.count c.args.block few s.low (omega (arith, s.low (s.count - 1) (omega arith))),
-                (
-                  in-two-bytes s.numbers s.count c.args.block few s.two_bytes (omega arith),
-                  (
-                    (λ i h. there s.numbers s.count c.args.block i (λ z. omega arith) ∙ s.past i (omega arith)),
-                    tt,
-                  ),
-                ),
-              ),
-            ),
-          ),
-        ),
-      ),
-    )
+    let few : s.count < length s.numbers = omega arith in
+    record {
+      some = omega arith;
+      few = omega arith;
+      six_numbers = length-set s.numbers s.count _ ∙ s.six_numbers;
+      six_contents = length-set s.contents s.count _ ∙ s.six_contents;
+      rise = rises s.numbers s.count c.args.block few s.rise (below s.numbers s.count c.args.block s.some s.rise c.if-self-n.false);
+      low = from_seven s.numbers s.count c.args.block few s.low (omega (arith, s.low (s.count - 1) (omega arith)));
+      two_bytes = in_two_bytes s.numbers s.count c.args.block few s.two_bytes (omega arith);
+      past = λ i h. there s.numbers s.count c.args.block i (λ z. omega arith) ∙ s.past i (omega arith);
+    }

@@ -1,12 +1,14 @@
 // Numbers as bytes, the low byte first, and blocks of 64 bytes. What writes a number is `to_le_bytes`; here is what
 // reads one from a place among other bytes.
+#![tactic(auto)]
+
 ghost use Rattle.std.specs.Prelude.{◌≡◌, ◌+◌, ◌<◌, ◌≤◌, length};
-ghost use Rattle.bytes.specs.Numbers.{four-from, eight-from};
-ghost use Rattle.bytes.specs.Rounds.{Read-back};
+ghost use Rattle.encoding.specs.Numbers.{four_from, eight_from};
+ghost use Rattle.encoding.specs.Rounds.{ReadBack};
 
 /// The number that four bytes from a place on hold; 0 where they are not all there.
 pub fn four_at(bytes: &[u8], place: usize) -> u32
-    ensures value { place + 4 ≤ length bytes.now → result ≡ four-from bytes.now place }
+    ensures value { place + 4 ≤ length bytes.now → result ≡ four_from bytes.now place }
     ensures beyond { length bytes.now < place + 4 → result ≡ 0 }
 {
     if bytes.len() < 4 || place > bytes.len() - 4 {
@@ -22,7 +24,7 @@ pub fn four_at(bytes: &[u8], place: usize) -> u32
 
 /// The number that eight bytes from a place on hold; 0 where they are not all there.
 pub fn eight_at(bytes: &[u8], place: usize) -> u64
-    ensures value { place + 8 ≤ length bytes.now → result ≡ eight-from bytes.now place }
+    ensures value { place + 8 ≤ length bytes.now → result ≡ eight_from bytes.now place }
     ensures beyond { length bytes.now < place + 8 → result ≡ 0 }
 {
     if bytes.len() < 8 || place > bytes.len() - 8 {
@@ -42,7 +44,7 @@ pub fn eight_at(bytes: &[u8], place: usize) -> u64
 
 /// A theorem: a number is read back from its bytes, and bytes are those of the number that they hold.
 pub fn numbers_are_read_back() -> bool
-    ensures holds { Read-back }
+    ensures holds { ReadBack }
 {
     true
 }

@@ -1,2 +1,0 @@
-pub mod Sums
-pub mod Equal
