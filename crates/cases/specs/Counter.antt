@@ -1,6 +1,6 @@
 -- Worked examples from the counter, as the rows of one table: what the definitions give, and what they should give.
 use Rattle.std.specs.Prelude.{◌≡◌, ℕ, List, [], ◌∷◌, replicate, ℤ, negsuc, Ok, Err, Result, slice_index, slice_set}
-use Rattle.std.specs.List.{AllByRecursion as All}
+use Rattle.std.specs.List.{AllByRecursion}
 use Rattle.refusals.specs.declared.reasons.Reason.TheVariants.{NoSuchNoteItem, SameItem, BadAmount}
 use Rattle.refusals.specs.declared.refusal.Refusal.{Refusal}
 use Rattle.refusals.specs.declared.step_place.StepPlace.{StepPlace}
@@ -61,4 +61,4 @@ table =
     ∷ []))))))))))
 
 abbrev pub ExamplesStand : Type 0
-ExamplesStand = All Gives table
+ExamplesStand = AllByRecursion Gives table

@@ -30,13 +30,12 @@ mod tests {
         Ok(lines)
     }
 
-    // Checks that a script whose last line is bad is refused there.
-    fn bad_at(rt: &HostRuntime, script: &[u8], line: u64) -> Result<(), Fail> {
+    // Whether a script is refused at this line, and says no more than that.
+    fn is_bad_at(rt: &HostRuntime, script: &[u8], line: u64) -> Result<bool, Fail> {
         let expected = format!(in rt.alloc();
             "line {line}: refusal 5 (house, no rule), place {line}: this line of the script is not understood\n"
         )?;
-        assert_eq!(replies(rt, script)?.as_str(), expected.as_str());
-        Ok(())
+        Ok(replies(rt, script)?.as_str() == expected.as_str())
     }
 
     #[test]
@@ -158,27 +157,27 @@ mod tests {
 
     #[test]
     fn bad_lines(rt: HostRuntime) -> Result<(), Fail> {
-        bad_at(&rt, b"note charge 8 0 1", 1).note("no book is chosen")?;
-        bad_at(&rt, b"book", 1)?;
-        bad_at(&rt, b"book ledger stock", 1)?;
-        bad_at(&rt, b"book Ledger", 1)?;
-        bad_at(&rt, b"\n\nbook ledger\nnote", 4)?;
-        bad_at(&rt, b"book stock\nnote charge 1 0 1", 2).note("a word of the other book")?;
-        bad_at(&rt, b"book stock\nnote take 1 0 1 1", 2)?;
-        bad_at(&rt, b"book stock\nnote take 1 0 18446744073709551616", 2).note(
-            "more than 64 bits",
-        )?;
-        bad_at(&rt, b"book stock\nnote take 1 0 -1", 2)?;
-        bad_at(&rt, b"book stock\nnote take 1 0 +1", 2)?;
-        bad_at(&rt, b"# caf\xc3\xa9", 1).note("no ASCII text")?;
-        bad_at(&rt, b"\0", 1)
-    }
-
-    #[test]
-    fn a_script_of_the_largest_size(rt: HostRuntime) -> Result<(), Fail> {
-        let most = vec![in rt.alloc(); b'\n'; 65536]?;
-        assert_eq!(rt; replies(&rt, most.as_slice())?.as_str(), "");
-        let more = vec![in rt.alloc(); b'\n'; 65537]?;
-        bad_at(&rt, more.as_slice(), 0)
+        assert!(rt;
+            is_bad_at(&rt, b"note charge 8 0 1", 1)?,
+            "no book is chosen"
+        );
+        assert!(rt; is_bad_at(&rt, b"book", 1)?);
+        assert!(rt; is_bad_at(&rt, b"book ledger stock", 1)?);
+        assert!(rt; is_bad_at(&rt, b"book Ledger", 1)?);
+        assert!(rt; is_bad_at(&rt, b"\n\nbook ledger\nnote", 4)?);
+        assert!(rt;
+            is_bad_at(&rt, b"book stock\nnote charge 1 0 1", 2)?,
+            "a word of the other book"
+        );
+        assert!(rt; is_bad_at(&rt, b"book stock\nnote take 1 0 1 1", 2)?);
+        assert!(rt;
+            is_bad_at(&rt, b"book stock\nnote take 1 0 18446744073709551616", 2)?,
+            "more than 64 bits"
+        );
+        assert!(rt; is_bad_at(&rt, b"book stock\nnote take 1 0 -1", 2)?);
+        assert!(rt; is_bad_at(&rt, b"book stock\nnote take 1 0 +1", 2)?);
+        assert!(rt; is_bad_at(&rt, b"# caf\xc3\xa9", 1)?, "no ASCII text");
+        assert!(rt; is_bad_at(&rt, b"\0", 1)?);
+        Ok(())
     }
 }
