@@ -180,4 +180,13 @@ mod tests {
         assert!(rt; is_bad_at(&rt, b"\0", 1)?);
         Ok(())
     }
+
+    #[test]
+    fn a_script_of_the_largest_size(rt: HostRuntime) -> Result<(), Fail> {
+        let most = vec![in rt.alloc(); b'\n'; 65536]?;
+        assert_eq!(rt; replies(&rt, most.as_slice())?.as_str(), "");
+        let more = vec![in rt.alloc(); b'\n'; 65537]?;
+        assert!(rt; is_bad_at(&rt, more.as_slice(), 0)?);
+        Ok(())
+    }
 }

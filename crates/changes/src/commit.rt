@@ -1,9 +1,17 @@
-ghost use Rattle.std.specs.Prelude.{◌≡◌, ℕ, ◌<◌, ◌≤◌, Decides, slice_index};
+ghost use Rattle.std.specs.Prelude.{◌≡◌, ℕ, ◌/◌, ◌%◌, ◌<◌, ◌≤◌, Decides, slice_index};
 ghost use Rattle.changes.specs.Commit.{commit_block_of, number_of, Rises, Lawful};
 ghost use Rattle.changes.specs.Plan.{plan_of};
 ghost use Rattle.changes.specs.Rounds.{RoundTrip};
 
 use crate::change::Change;
+
+/// The two bytes of a number, the low one first.
+fn bytes_of(number: u16) -> (u8, u8)
+    ensures low { result.0 ≡ number % 256 }
+    ensures high { result.1 ≡ number / 256 % 256 }
+{
+    ((number % 256) as u8, (number / 256 % 256) as u8)
+}
 
 impl Change {
     /// The commit block that names the change's blocks.
@@ -13,12 +21,12 @@ impl Change {
         let mut block = [0; 64];
         block[0] = self.count as u8;
         let [a, b, c, d, e, f] = self.numbers;
-        block[2..4].copy_from_slice(&a.to_le_bytes());
-        block[4..6].copy_from_slice(&b.to_le_bytes());
-        block[6..8].copy_from_slice(&c.to_le_bytes());
-        block[8..10].copy_from_slice(&d.to_le_bytes());
-        block[10..12].copy_from_slice(&e.to_le_bytes());
-        block[12..14].copy_from_slice(&f.to_le_bytes());
+        (block[2], block[3]) = bytes_of(a);
+        (block[4], block[5]) = bytes_of(b);
+        (block[6], block[7]) = bytes_of(c);
+        (block[8], block[9]) = bytes_of(d);
+        (block[10], block[11]) = bytes_of(e);
+        (block[12], block[13]) = bytes_of(f);
         block
     }
 }

@@ -1,5 +1,5 @@
 -- What is written in a block is read back, and a block is the form of what is read from it.
-use Rattle.std.proofs.Common.{◌≡◌, ℕ, ◌+◌, ◌-◌, ◌*◌, ◌^◌, ◌<◌, ◌≤◌, Bool, true, false, cond, eqb, List, [], ◌∷◌, ◌++◌, length, get_or, take, drop, Some, None, sym, refl, ap, ◌∙◌, subst, arith}
+use Rattle.std.proofs.Common.{◌≡◌, ◌≢◌, MatchOption, Option, ℕ, ◌+◌, ◌-◌, ◌*◌, ◌^◌, ◌<◌, ◌≤◌, Bool, true, false, cond, eqb, List, [], ◌∷◌, ◌++◌, length, get_or, take, drop, Some, None, sym, refl, ap, ◌∙◌, subst, arith}
 use Rattle.std.specs.Str.{bytes_eq}
 use Rattle.std.proofs.lemmas.Slice.Eq.{bytes_eq-Decides}
 use Rattle.std.proofs.lemmas.List.{drop-drop, drop-take, take-take}
@@ -12,7 +12,7 @@ use Rattle.rights.specs.declared.row.Row.{Row}
 use Rattle.layout.specs.declared.head.Head.{Head}
 use Rattle.layout.specs.Codes.{codes_form, codes_of}
 use Rattle.layout.specs.Rows.{rows_form, rows_of}
-use Rattle.layout.specs.Head.{head_form, fields_of_head, head_of, HeadForm}
+use Rattle.layout.specs.Head.{head_form, fields_of_head, head_of, HeadForm, HeadFits}
 use Rattle.layout.specs.Roll.{word_in, first_words, last_words}
 use Rattle.layout.specs.Rounds.{CodesFit, RowsFit, SpareZero, ReadBack}
 use Rattle.layout.proofs.Apart.{apart}
@@ -162,3 +162,15 @@ head_answer f c t e nz same =
     ap (λ z. cond z (Some f) None) same
     ∙ ap (λ (y : Head). cond (bytes_eq (head_form y) c) (Some y) None) e
     ∙ sym (ap (λ z. cond z None (cond (bytes_eq (head_form (fields_of_head c)) c) (Some (fields_of_head c)) None)) house)
+
+-- a block from which no head is read is no head's form
+no_head : (h : Head) (c : List ℕ) → head_of c ≡ None → HeadForm h c → ⊥
+no_head h c e f =
+    let some : Some h ≡ None = sym (head_read h c f) ∙ e in
+    let z : ◌≡◌ {A = ℕ} 0 1 = cc in
+    omega arith
+
+-- what the definition reads from a block is a head whose form it is, and where it reads nothing it is no head's form
+pub head_reads : (c : List ℕ) (o : Option Head) → o ≡ head_of c → MatchOption o ((h : Head) → HeadFits h → (h.house ≢ 0) → head_form h ≢ c) (λ h. (h.house ≢ 0) × (head_form h ≡ c))
+head_reads c None e = λ h f n g. no_head h c (sym e) (record { some_house = n; house_fits = f.house_fits; count_fits = f.count_fits; form = g })
+head_reads c (Some h) e = let x = head_exact h c (sym e) in (x.some_house, x.form)

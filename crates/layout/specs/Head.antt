@@ -9,6 +9,11 @@ abbrev pub head_form : Head → List ℕ
 head_form h =
     four_bytes h.house ++ (h.kind ∷ (0 ∷ (0 ∷ (0 ∷ (four_bytes h.count ++ replicate 52 0)))))
 
+-- house number and count are of 32 bits
+pub record HeadFits (h : Head) : Type 0 where
+  pub house_fits : h.house < 2 ^ 32
+  pub count_fits : h.count < 2 ^ 32
+
 -- what a block's fields give
 abbrev pub fields_of_head : List ℕ → Head
 fields_of_head c = record { house = four_from c 0; kind = slice_index c 4; count = four_from c 8 }

@@ -1,4 +1,5 @@
-ghost use Rattle.std.specs.Prelude.{◌≡◌};
+ghost use Rattle.std.specs.Prelude.{◌≡◌, ◌*◌, ◌<◌, ◌≤◌};
+ghost use Rattle.encoding.specs.Numbers.{eight_from};
 ghost use Rattle.layout.specs.Codes.{codes_form, codes_of};
 
 use encoding::eight_at;
@@ -18,6 +19,18 @@ pub fn codes_block(codes: &[u64; 8]) -> [u8; 64]
     block[48..56].copy_from_slice(&g.to_le_bytes());
     block[56..64].copy_from_slice(&h.to_le_bytes());
     block
+}
+
+/// The code at a place from 0 to 7 of a block; 0 from there on.
+pub fn read_code(block: &[u8; 64], place: usize) -> u64
+    ensures value { place < 8 → result ≡ eight_from block.now (8 * place) }
+    ensures beyond { 8 ≤ place → result ≡ 0 }
+{
+    if place >= 8 {
+        return 0;
+    }
+    let at = 8 * place;
+    eight_at(block, at)
 }
 
 /// The eight codes that a block holds.

@@ -9,7 +9,7 @@ mod heads;
 mod roll;
 mod rows;
 
-pub use codes::{codes_block, read_codes};
+pub use codes::{codes_block, read_code, read_codes};
 pub use head::Head;
 pub use heads::{head_block, head_fields, read_head};
 pub use roll::{is_word_at, roll_blocks};

@@ -1,5 +1,5 @@
 -- A record is read back from its block.
-use Rattle.std.proofs.Common.{◌≡◌, ℕ, cond, List, Some, None, Option, sym, refl, ap, ◌∙◌, inl, inr, arith}
+use Rattle.std.proofs.Common.{◌≡◌, ℕ, cond, false, List, Some, None, Option, sym, refl, ap, ◌∙◌, inl, inr, arith}
 use Rattle.std.specs.Str.{bytes_eq}
 use Rattle.std.proofs.lemmas.Slice.Eq.{bytes_eq-Decides}
 use Rattle.std.proofs.lemmas.Bool.{cases_Bool}
@@ -10,7 +10,7 @@ use Rattle.records.specs.declared.record.Record.{Record}
 use Rattle.records.specs.declared.record.Record.TheVariants.{Posting, Certification, Strike}
 
 -- a record's fields are read back
-parsed_back : (k : ℕ) (x : Record) → Fits x → parsed (encoded k x) ≡ Some x
+pub parsed_back : (k : ℕ) (x : Record) → Fits x → parsed (encoded k x) ≡ Some x
 parsed_back k (Posting e c p a b n) h = ap (λ z. Some (Posting e c p a b z)) (eight_sum n h)
 parsed_back k (Certification u p r w m) h = ap (λ z. Some (Certification u p r w z)) (eight_sum m h)
 parsed_back k (Strike w) h = refl
@@ -56,6 +56,10 @@ no_other k x c e f =
     let some : decoded k c ≡ Some x = ap (decoded k) (sym f.form) ∙ read_back k x f.fits in
     let z : ◌≡◌ {A = ℕ} 0 1 = cc in
     omega arith
+
+-- a block that is not the form of what its fields give is no record's form
+pub not_form : (k : ℕ) (c : List ℕ) (y : Record) → parsed c ≡ Some y → bytes_eq (encoded k y) c ≡ false → (x : Record) → Fits x → encoded k x ≡ c → ⊥
+not_form k c y p f x h e = no_other k x c (ap (if_form k c) p ∙ ap (λ z. cond z (Some y) None) f) (record { fits = h; form = e })
 
 pub one_form : OneForm
 one_form = record { read_back = read_back; exact = exact; no_other = no_other }

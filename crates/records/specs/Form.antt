@@ -32,6 +32,10 @@ parsed c =
     (Some (Certification (slice_index c 1) (slice_index c 3) (slice_index c 4) (slice_index c 5) (eight_from c 16)))
     (cond (slice_index c 0 == 3) (Some (Strike (slice_index c 5))) None))
 
+-- an encoded record is read back from its block
+abbrev pub ReadBack : Type 0
+ReadBack = (number : ℕ) (x : Record) → Fits x → parsed (encoded number x) ≡ Some x
+
 -- a block is a record's exact form, with this number
 pub record Exact (number : ℕ) (x : Record) (c : List ℕ) : Type 0 where
   pub fits : Fits x

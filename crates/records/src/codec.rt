@@ -1,6 +1,7 @@
-ghost use Rattle.std.specs.Prelude.{◌≡◌};
+ghost use Rattle.std.specs.Prelude.{◌≡◌, MatchOption, ◌≢◌};
+ghost use Rattle.records.specs.declared.record.Record.{Record as Entry};
 ghost use Rattle.records.specs.declared.record.Record.TheVariants.{Posting, Certification};
-ghost use Rattle.records.specs.Form.{form, encoded, parsed, decoded, OneForm};
+ghost use Rattle.records.specs.Form.{form, encoded, parsed, decoded, Fits, ReadBack, OneForm};
 
 use crate::record::Record;
 use encoding::eight_at;
@@ -153,6 +154,7 @@ fn parse(block: &[u8; 64]) -> Option<Record>
 
 /// The record whose exact form the block is, with this number; none where it is no record's.
 pub fn decode(block: &[u8; 64], number: u32) -> Option<Record>
+    ensures decodes { MatchOption result ((x : Entry) → Fits x → encoded number x ≢ block.now) (λ x. encoded number x ≡ block.now) }
     ensures value { result ≡ decoded number block.now }
 {
     let entry = parse(block)?;
@@ -161,6 +163,13 @@ pub fn decode(block: &[u8; 64], number: u32) -> Option<Record>
     } else {
         None
     }
+}
+
+/// A theorem: an encoded record is read back from its block.
+pub fn records_are_read_back() -> bool
+    ensures holds { ReadBack }
+{
+    true
 }
 
 /// A theorem: a record has one form, and is read back from it.

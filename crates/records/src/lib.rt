@@ -5,5 +5,5 @@ mod codec;
 mod record;
 mod text;
 
-pub use codec::{decode, encode, records_have_one_form};
+pub use codec::{decode, encode, records_are_read_back, records_have_one_form};
 pub use record::Record;
