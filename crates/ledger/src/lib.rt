@@ -3,7 +3,7 @@
 
 ghost use Rattle.std.specs.Prelude.{◌≡◌, pos, neg_ℤ};
 ghost use Rattle.ledger.specs.Ledger.{ledger, ledger_takes, balance, within, code_changed};
-ghost use Rattle.ledger.specs.Stepping.{ledger_tests, ledger_gives_codes};
+ghost use Rattle.books.specs.Meaning.{StepTests, StepGivesCodes};
 ghost use Rattle.ledger.specs.Keeping.{ledger_keeps};
 ghost use Rattle.std.proofs.Common.{rules};
 
@@ -100,10 +100,6 @@ impl Book for Ledger {
 
     ghost proper_words = { Prim.search rules };
 
-    ghost step_tests = { ledger_tests };
-
-    ghost step_gives_codes = { ledger_gives_codes };
-
     ghost step_keeps_valid = { ledger_keeps };
 
     ghost one_code_each = { Prim.search rules };
@@ -176,4 +172,12 @@ impl Book for Ledger {
         };
         Ok((more, less))
     }
+}
+
+/// A theorem: the step makes its tests in their order, and from codes of 64 bits it gives codes of 64 bits.
+pub fn ledger_step_is_tested() -> bool
+    ensures tests { StepTests ledger }
+    ensures codes { StepGivesCodes ledger }
+{
+    true
 }

@@ -5,7 +5,7 @@
 ghost use Rattle.std.specs.Prelude.{◌≡◌};
 ghost use Rattle.stock.specs.Stock.{stock, stock_takes, shelf_ok, held, most, reels_code};
 ghost use Rattle.stock.specs.Shelf.{pair_after};
-ghost use Rattle.stock.specs.Stepping.{stock_tests, stock_gives_codes};
+ghost use Rattle.books.specs.Meaning.{StepTests, StepGivesCodes};
 ghost use Rattle.stock.specs.Keeping.{stock_keeps};
 ghost use Rattle.std.proofs.Common.{rules};
 
@@ -110,10 +110,6 @@ impl Book for Stock {
 
     ghost proper_words = { Prim.search rules };
 
-    ghost step_tests = { stock_tests };
-
-    ghost step_gives_codes = { stock_gives_codes };
-
     ghost step_keeps_valid = { stock_keeps };
 
     ghost one_code_each = { Prim.search rules };
@@ -190,4 +186,12 @@ impl Book for Stock {
         }
         Ok((code_of(shelf), code_of(sums)))
     }
+}
+
+/// A theorem: the step makes its tests in their order, and from codes of 64 bits it gives codes of 64 bits.
+pub fn stock_step_is_tested() -> bool
+    ensures tests { StepTests stock }
+    ensures codes { StepGivesCodes stock }
+{
+    true
 }
