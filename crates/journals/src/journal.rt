@@ -4,8 +4,10 @@ ghost use Rattle.changes.specs.Commit.{Lawful, count_of};
 ghost use Rattle.changes.specs.Plan.{plan_of, last};
 ghost use Rattle.journals.specs.Steps.{StepsDone, StepsCut};
 ghost use Rattle.journals.specs.Outcomes.{ReadsBlock, PowersOn, Changes, Finishes, Finished, CutFinishing};
+ghost use Rattle.journals.specs.Laying.{LaysDown};
 ghost use Rattle.journals.specs.declared.journal.FinishFault.TheVariants as finish-fault;
 
+use crate::laying::lay_blocks;
 use crate::place::Place;
 use crate::steps;
 use changes::{Change, is_lawful, named_block};
@@ -131,6 +133,22 @@ impl<D: Drive> Journal<D> {
             return Ok(());
         }
         self.finish_named(&commit, count)
+    }
+
+    /// Empties the journal and lays down the first home blocks, 7 to 33, for a drive that is to begin anew.
+    pub fn lay_down(&mut self, home: &[[u8; 64]; 27]) -> Result<(), DriveFault>
+        ensures lays_down { LaysDown (D.disk self.old.drive) home.now result (D.disk self.new.drive) }
+    {
+        if !self.drive.is_on() {
+            return Err(DriveFault::Off);
+        }
+        if self.drive.size() < 34 {
+            return Err(DriveFault::NoSuchBlock);
+        }
+        match lay_blocks(&mut self.drive, home) {
+            Ok(()) => Ok(()),
+            Err(_) => Err(DriveFault::PowerLost),
+        }
     }
 
     /// Carries home what a commit block that names some blocks names.
