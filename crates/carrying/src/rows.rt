@@ -8,14 +8,6 @@ use books::Book;
 use refusals::{Reason, Refusal, RowPlace};
 use rights::Row;
 
-/// The free row.
-const FREE: Row = Row {
-    user: 0,
-    procedure: 0,
-    role: 0,
-    mask: 0,
-};
-
 /// The row that a certification asks for at a place, or what is at fault with it.
 pub fn check_row<B: Book>(
     book: &B,
@@ -81,7 +73,7 @@ pub(crate) fn strike(room: u64, held: &mut Held, place: u8) -> Result<(), Refusa
     if held.count >= room {
         return Err(Refusal::at(Reason::AuditFull, held.count));
     }
-    held.rows[place as usize] = FREE;
+    held.rows[place as usize] = Row::FREE;
     held.count += 1;
     Ok(())
 }

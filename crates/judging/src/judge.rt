@@ -1,8 +1,4 @@
 ghost use Rattle.std.specs.Prelude.{◌≡◌, ℕ, ◌+◌, ◌<◌, ◌≤◌, true, Ok, Err, MatchResult};
-ghost use Rattle.refusals.specs.declared.reasons.Reason.TheVariants as reason;
-ghost use Rattle.refusals.specs.declared.power_place.PowerPlace.TheVariants as place;
-ghost use Rattle.refusals.specs.Places.{power_place_number};
-ghost use Rattle.refusals.specs.Refused.{refused};
 ghost use Rattle.drives.specs.Disk.{size};
 ghost use Rattle.journals.specs.Redo.{home};
 ghost use Rattle.carrying.specs.Standing.{standing_of};
@@ -19,13 +15,6 @@ use image::{Part, codes_blocks, first_differing, read_part, rows_blocks};
 use journals::Journal;
 use refusals::{PowerPlace, Reason, Refusal};
 
-/// Power was lost while the drive was started.
-pub(crate) fn power_lost() -> Refusal
-    ensures value { Err result ≡ refused {X = ℕ} reason.PowerLost (power_place_number place.Starting) }
-{
-    Refusal::at(Reason::PowerLost, PowerPlace::Starting.place())
-}
-
 /// What a home block holds, on a drive that is on and has it.
 fn read_home<D: Drive>(journal: &Journal<D>, block: u64) -> Result<[u8; 64], Refusal>
     requires on { (D.disk journal.now.drive).on ≡ true }
@@ -35,7 +24,7 @@ fn read_home<D: Drive>(journal: &Journal<D>, block: u64) -> Result<[u8; 64], Ref
 {
     match journal.read(block) {
         Ok(content) => Ok(content),
-        Err(_) => Err(power_lost()),
+        Err(_) => Err(Refusal::power_lost(PowerPlace::Starting)),
     }
 }
 
@@ -47,7 +36,7 @@ fn read_blocks<D: Drive>(journal: &Journal<D>, part: Part) -> Result<[[u8; 64]; 
 {
     match read_part(journal, part) {
         Ok(contents) => Ok(contents),
-        Err(_) => Err(power_lost()),
+        Err(_) => Err(Refusal::power_lost(PowerPlace::Starting)),
     }
 }
 
