@@ -5,7 +5,7 @@ ghost use Rattle.carrying.specs.Results.{Carries};
 
 use crate::held::Held;
 use crate::posting::post;
-use crate::rows::{check_row, fill, strike};
+use crate::rows::{certify, strike};
 use books::Book;
 use notes::make_note;
 use records::Record;
@@ -52,17 +52,16 @@ pub fn carry_out<B: Book>(
             role,
             row,
             mask,
-        } => {
-            let checked = check_row(
-                book,
-                u64::from(row),
-                u64::from(user),
-                u64::from(procedure),
-                u64::from(role),
-                mask,
-            )?;
-            fill(room, held, row, checked)
-        }
-        Record::Strike { row } => strike(room, held, row),
+        } => certify(
+            book,
+            room,
+            held,
+            u64::from(row),
+            u64::from(user),
+            u64::from(procedure),
+            u64::from(role),
+            mask,
+        ),
+        Record::Strike { row } => strike(room, held, u64::from(row)),
     }
 }

@@ -10,4 +10,4 @@ mod rows;
 pub use carrying::carry_out;
 pub use held::Held;
 pub use posting::post;
-pub use rows::check_row;
+pub use rows::{certify, strike};

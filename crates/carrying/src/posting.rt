@@ -1,4 +1,4 @@
-ghost use Rattle.std.specs.Prelude.{◌≡◌, ◌+◌, ◌<◌};
+ghost use Rattle.std.specs.Prelude.{◌≡◌, ◌+◌, ◌<◌, OnOk};
 ghost use Rattle.carrying.specs.Standing.{standing_of, with_codes};
 ghost use Rattle.carrying.specs.Carried.{if_valid, posted};
 ghost use Rattle.carrying.specs.Results.{Carries};
@@ -42,6 +42,7 @@ pub fn post<B: Book>(
     amount: u64,
 ) -> Result<(), Refusal>
     ensures carries { Carries (posted B.meaning room (standing_of held.old) users.0 users.1 procedure items.0 items.1 amount) (standing_of held.old) result (standing_of held.new) }
+    ensures had_room { OnOk result (held.old.count < room) }
 {
     let enterer = u64::from(users.0);
     let countersigner = u64::from(users.1);

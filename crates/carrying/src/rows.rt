@@ -1,6 +1,6 @@
-ghost use Rattle.std.specs.Prelude.{◌≡◌, ◌≤◌};
+ghost use Rattle.std.specs.Prelude.{◌≡◌, ◌<◌, ◌≤◌, OnOk};
 ghost use Rattle.carrying.specs.Standing.{standing_of};
-ghost use Rattle.carrying.specs.Rows.{checked_row, filled, struck};
+ghost use Rattle.carrying.specs.Rows.{checked_row, filled, certified, struck};
 ghost use Rattle.carrying.specs.Results.{Carries};
 
 use crate::held::Held;
@@ -9,7 +9,7 @@ use refusals::{Reason, Refusal, RowPlace};
 use rights::Row;
 
 /// The row that a certification asks for at a place, or what is at fault with it.
-pub fn check_row<B: Book>(
+fn check_row<B: Book>(
     book: &B,
     place: u64,
     user: u64,
@@ -18,6 +18,7 @@ pub fn check_row<B: Book>(
     mask: u64,
 ) -> Result<Row, Refusal>
     ensures value { result ≡ checked_row B.meaning place (record { user = user; procedure = procedure; role = role; mask = mask }) }
+    ensures in_bytes { OnOk result ((place ≤ 31) × (user < 256) × (procedure < 256) × (role < 256)) }
 {
     if place > 31 {
         return Err(Refusal::at(Reason::BadRow, RowPlace::Row.place()));
@@ -43,9 +44,10 @@ pub fn check_row<B: Book>(
 }
 
 /// Fills a free row, if there is room for the record.
-pub(crate) fn fill(room: u64, held: &mut Held, place: u8, row: Row) -> Result<(), Refusal>
+fn fill(room: u64, held: &mut Held, place: u8, row: Row) -> Result<(), Refusal>
     requires within { place ≤ 31 }
     ensures carries { Carries (filled room (standing_of held.old) place row) (standing_of held.old) result (standing_of held.new) }
+    ensures had_room { OnOk result (held.old.count < room) }
 {
     let before = held.rows[place as usize];
     if !before.is_free() {
@@ -59,16 +61,37 @@ pub(crate) fn fill(room: u64, held: &mut Held, place: u8, row: Row) -> Result<()
     Ok(())
 }
 
+/// Fills a row, if what is asked for is a row, it is free, and there is room for the record.
+pub fn certify<B: Book>(
+    book: &B,
+    room: u64,
+    held: &mut Held,
+    place: u64,
+    user: u64,
+    procedure: u64,
+    role: u64,
+    mask: u64,
+) -> Result<(), Refusal>
+    ensures carries { Carries (certified B.meaning room (standing_of held.old) place (record { user = user; procedure = procedure; role = role; mask = mask })) (standing_of held.old) result (standing_of held.new) }
+    ensures had_room { OnOk result (held.old.count < room) }
+    ensures in_bytes { OnOk result ((place ≤ 31) × (user < 256) × (procedure < 256) × (role < 256)) }
+{
+    let row = check_row(book, place, user, procedure, role, mask)?;
+    fill(room, held, place as u8, row)
+}
+
 /// Frees a row that is taken, if there is such a row and room for the record.
-pub(crate) fn strike(room: u64, held: &mut Held, place: u8) -> Result<(), Refusal>
+pub fn strike(room: u64, held: &mut Held, place: u64) -> Result<(), Refusal>
     ensures carries { Carries (struck room (standing_of held.old) place) (standing_of held.old) result (standing_of held.new) }
+    ensures had_room { OnOk result (held.old.count < room) }
+    ensures in_bytes { OnOk result (place ≤ 31) }
 {
     if place > 31 {
         return Err(Refusal::at(Reason::BadRow, RowPlace::Row.place()));
     }
     let before = held.rows[place as usize];
     if before.is_free() {
-        return Err(Refusal::at(Reason::RowTaken, u64::from(place)));
+        return Err(Refusal::at(Reason::RowTaken, place));
     }
     if held.count >= room {
         return Err(Refusal::at(Reason::AuditFull, held.count));

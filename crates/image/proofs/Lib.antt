@@ -3,3 +3,4 @@ pub mod Comparing
 pub mod Accepting
 mod Filling
 pub mod Found
+pub mod Places

@@ -7,6 +7,7 @@ ghost use Rattle.layout.specs.Codes.{codes_of};
 ghost use Rattle.layout.specs.Head.{head_of};
 ghost use Rattle.carrying.specs.Standing.{standing_of};
 ghost use Rattle.carrying.specs.Carried.{carried};
+ghost use Rattle.carrying.specs.Results.{Gives};
 ghost use Rattle.image.specs.Verdict.{checked_head, checked_opening, exact_record, at_record};
 
 use books::Book;
@@ -40,7 +41,7 @@ pub(crate) fn check_head<B: Book>(book: &B, room: u64, block: &[u8; 64]) -> Resu
 
 /// The books as they were opened, if the opening is valid.
 pub(crate) fn check_opening<B: Book>(book: &B, blocks: &[[u8; 64]; 8]) -> Result<Held, Refusal>
-    ensures value { MatchResult result (λ h. checked_opening B.meaning (flat_map codes_of blocks.now) ≡ Ok (standing_of h)) (λ e. checked_opening B.meaning (flat_map codes_of blocks.now) ≡ Err e) }
+    ensures gives { Gives (checked_opening B.meaning (flat_map codes_of blocks.now)) result }
 {
     let items = codes_in(blocks);
     if !book.verify(&items) {

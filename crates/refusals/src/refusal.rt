@@ -16,8 +16,7 @@ pub struct Refusal {
 impl Refusal {
     /// The refusal for a reason, at a place.
     pub fn at(reason: Reason, place: u64) -> Refusal
-        ensures names_reason { result.reason ≡ reason }
-        ensures names_place { result.place ≡ place }
+        ensures value { result ≡ record { reason = reason; place = place } }
     {
         Refusal { reason, place }
     }

@@ -15,7 +15,7 @@ pub returns-in_err-held : goal.returns-in_err-held
 returns-in_err-held g c =
     let h = home (g.D.Drive.disk c.args.journal.now.drive).blocks in
     let p = err_from_is_err_and c.from_residual-in_err-held.result c.from_residual-in_err-held.ensures.1 in
-    let refused = opening_refused g.B.Book.meaning (c.size-room.result - 34) h c.in_ok-read_home.field-0 c.in_ok-head.head c.in_ok-read_home.ensures.found c.in_ok-head.ensures.value c.in_ok-read_blocks.field-0 c.in_ok-read_blocks.ensures.found _ c.in_err-held.ensures.value in
+    let refused = opening_refused g.B.Book.meaning (c.size-room.result - 34) h c.in_ok-read_home.field-0 c.in_ok-head.head c.in_ok-read_home.ensures.found c.in_ok-head.ensures.value c.in_ok-read_blocks.field-0 c.in_ok-read_blocks.ensures.found _ c.in_err-held.ensures.gives in
     record { value = rw (p.1, p.2) (refused ∙ ap (λ z. judged g.B.Book.meaning (z - 34) h) c.size-room.ensures.value) }
 
 -- a record is not lawful
@@ -23,11 +23,11 @@ pub returns-in_err-replay : goal.returns-in_err-replay
 returns-in_err-replay g c =
     let h = home (g.D.Drive.disk c.args.journal.now.drive).blocks in
     let p = err_from_is_err_and c.from_residual-in_err-replay.result c.from_residual-in_err-replay.ensures.1 in
-    let refused = record_refused g.B.Book.meaning (c.size-room.result - 34) h c.in_ok-read_home.field-0 c.in_ok-head.head c.in_ok-read_home.ensures.found c.in_ok-head.ensures.value c.in_ok-read_blocks.field-0 c.in_ok-read_blocks.ensures.found (standing_of c.in_ok-held.held) c.in_ok-held.ensures.value _ c.in_err-replay.ensures.value in
+    let refused = record_refused g.B.Book.meaning (c.size-room.result - 34) h c.in_ok-read_home.field-0 c.in_ok-head.head c.in_ok-read_home.ensures.found c.in_ok-head.ensures.value c.in_ok-read_blocks.field-0 c.in_ok-read_blocks.ensures.found (standing_of c.in_ok-held.held) c.in_ok-held.ensures.gives _ c.in_err-replay.ensures.value in
     record { value = rw (p.1, p.2) (refused ∙ ap (λ z. judged g.B.Book.meaning (z - 34) h) c.size-room.ensures.value) }
 
 -- all that is left is the comparison
 pub returns : goal.returns
 returns g c =
     let h = home (g.D.Drive.disk c.args.journal.now.drive).blocks in
-    record { value = all_compared g.B.Book.meaning (c.size-room.result - 34) h c.in_ok-read_home.field-0 c.in_ok-head.head c.in_ok-read_home.ensures.found c.in_ok-head.ensures.value c.in_ok-read_blocks.field-0 c.in_ok-read_blocks.ensures.found (standing_of c.in_ok-held.held) c.in_ok-held.ensures.value (standing_of c.replay.new.held) c.compare.result c.in_ok-replay.ensures.value c.compare.ensures.value ∙ ap (λ z. judged g.B.Book.meaning (z - 34) h) c.size-room.ensures.value }
+    record { value = all_compared g.B.Book.meaning (c.size-room.result - 34) h c.in_ok-read_home.field-0 c.in_ok-head.head c.in_ok-read_home.ensures.found c.in_ok-head.ensures.value c.in_ok-read_blocks.field-0 c.in_ok-read_blocks.ensures.found (standing_of c.in_ok-held.held) c.in_ok-held.ensures.gives (standing_of c.replay.new.held) c.compare.result c.in_ok-replay.ensures.value c.compare.ensures.value ∙ ap (λ z. judged g.B.Book.meaning (z - 34) h) c.size-room.ensures.value }
