@@ -1,5 +1,5 @@
 -- What keeps a monitor steady.
-use Rattle.std.proofs.Common.{◌≡◌, ℕ, ◌≤◌, true, leb, ap, ◌∙◌, sym, subst, arith}
+use Rattle.std.proofs.Common.{◌≡◌, ℕ, ◌≤◌, true, leb, ap, ◌∙◌, sym, subst}
 use Rattle.std.proofs.lemmas.Bool.{and_parts, leb-true}
 use Rattle.drives.specs.Disk.{Disk, size}
 use Rattle.changes.specs.Plan.{Plan}

@@ -46,7 +46,7 @@ module _ (s t : Machine) (r : Result ℕ Refusal) (w : Result Plan Refusal) (x :
       → MatchResult r (λ n. Acknowledged (change_for d y a) s n t) (λ e. LostPower (change_for d y a) s e t) → Changes w s r t
   changes_made d y a g h e m =
       let plan : change_for d y a ≡ change_for (fields_of_head (at (home_of s) 7)) x a =
-        ap (λ z. change_for z y a) h ∙ ap (λ z. change_for (fields_of_head (at (home_of s) 7)) z a) e in
+      ap (λ z. change_for z y a) h ∙ ap (λ z. change_for (fields_of_head (at (home_of s) 7)) z a) e in
       let same : w ≡ Ok (change_for d y a) = is ∙ ap (wanted (home_of s) x) g ∙ ap Ok (sym plan) in
       subst (λ (z : Result Plan Refusal). Changes z s r t) (sym same) m
 

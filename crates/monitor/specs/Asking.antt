@@ -1,5 +1,5 @@
 -- Who may ask, and what an open monitor answers without touching its drive.
-use Rattle.std.specs.Prelude.{ℕ, ◌/◌, ◌%◌, Bool, cond, ◌&&◌, List, Some, None, Ok, Option, Result, ◌==◌, nat_le, nat_lt, slice_index}
+use Rattle.std.specs.Prelude.{ℕ, cond, ◌&&◌, List, Some, None, Ok, Option, Result, ◌==◌, nat_le, nat_lt, slice_index}
 use Rattle.std.specs.Str.{bytes_eq}
 use Rattle.refusals.specs.declared.reasons.Reason.TheVariants.{BadWord, EntererNotEntitled, Foreign, NoSuchEntry}
 use Rattle.refusals.specs.declared.refusal.Refusal.{Refusal}

@@ -5,3 +5,4 @@ pub mod Machine
 pub mod Asking
 pub mod Changing
 pub mod Calls
+pub mod Starting

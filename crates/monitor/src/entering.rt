@@ -59,11 +59,7 @@ fn check_kind<B: Book>(book: &B, note: &Numbers) -> Result<(), Refusal>
 }
 
 /// Whether the user may enter a note, or else the refusal.
-fn check_enterer<D: Drive>(
-    journal: &Journal<D>,
-    user: u64,
-    note: &Numbers,
-) -> Result<(), Refusal>
+fn check_enterer<D: Drive>(journal: &Journal<D>, user: u64, note: &Numbers) -> Result<(), Refusal>
     requires steady { Steady (D.disk journal.now.drive) }
     ensures value { result ≡ may_enter (home (D.disk journal.now.drive).blocks) user note.now }
 {

@@ -8,6 +8,6 @@ pub returns : goal.returns
 returns g c =
     record {
       value =
-        ap (λ z. get_or z (c.args.item % 8) 0) (c.read_codes.ensures.value ∙ ap codes_of c.read_block-block.ensures.value)
-        ∙ sym (items_at _ c.args.item c.requires.within);
+          ap (λ z. get_or z (c.args.item % 8) 0) (c.read_codes.ensures.value ∙ ap codes_of c.read_block-block.ensures.value)
+          ∙ sym (items_at _ c.args.item c.requires.within);
     }

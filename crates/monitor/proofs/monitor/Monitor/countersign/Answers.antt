@@ -1,4 +1,4 @@
-use Rattle.std.proofs.Common.{◌≡◌, ℕ, Ok, Result, refl, sym, ap, subst, ◌∙◌}
+use Rattle.std.proofs.Common.{ℕ, Result, refl, ap, subst, ◌∙◌}
 use Rattle.std.proofs.lemmas.Result.{err_from_is_err_and}
 use Rattle.refusals.specs.declared.refusal.Refusal.{Refusal}
 use Rattle.layout.specs.declared.head.Head.{Head}
@@ -37,7 +37,7 @@ returns g c =
     let own = c.in_ok-check_slip.ensures.value ∙ ap (λ (z : Head). own_slip m z.house e) c.head_on-head.ensures.value in
     let is = countersigned_is m s c.args.user c.args.word.now e c.in_ok-admit.ensures.value own c.in_ok-identify.ensures.value in
     let done =
-      changes_made s t c.make.result _ (posting e c.args.user) _ is c.head_on-head.result c.record_of.result (standing_of c.in_ok-held.held) c.in_ok-held.ensures.gives c.head_on-head.ensures.value c.record_of.ensures.value c.make.ensures.makes
+    changes_made s t c.make.result _ (posting e c.args.user) _ is c.head_on-head.result c.record_of.result (standing_of c.in_ok-held.held) c.in_ok-held.ensures.gives c.head_on-head.ensures.value c.record_of.ensures.value c.make.ensures.makes
     in
     record {
       countersigns = record {

@@ -1,4 +1,4 @@
-use Rattle.std.proofs.Common.{◌≡◌, ℕ, ◌+◌, ◌-◌, ◌<◌, ◌≤◌, subst, ap, ◌∙◌, arith}
+use Rattle.std.proofs.Common.{◌≡◌, ◌+◌, ◌≤◌, subst, ap, ◌∙◌, arith}
 use Rattle.drives.specs.Disk.{Disk, size}
 use Rattle.changes.specs.Plan.{Plan, plan_of, number}
 use Rattle.journals.specs.Outcomes.{changed}
@@ -24,6 +24,6 @@ invariant_of-self g c =
     let some = subst (λ (p : Plan). 1 ≤ p.count) same k.some in
     let rise = subst (λ (p : Plan). Rise p.count (number p)) same k.rise in
     let counts : count_on (changed (plan_of k) d) ≡ c.args.head.count + 1 =
-      ap (λ (p : Plan). count_on (changed p d)) same
-      ∙ changed_count c.args.head c.args.entry s d some rise (omega arith) (omega (arith, c.requires.room)) in
+    ap (λ (p : Plan). count_on (changed p d)) same
+    ∙ changed_count c.args.head c.args.entry s d some rise (omega arith) (omega (arith, c.requires.room)) in
     record { steady = λ _. made_steady (plan_of k) d _ steady made (omega (arith, counts, c.requires.room)) }
