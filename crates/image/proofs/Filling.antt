@@ -1,9 +1,8 @@
 -- Lists that a loop fills: part by part, or element by element.
-use Rattle.std.proofs.Common.{◌≡◌, ℕ, suc, ◌+◌, ◌<◌, ◌≤◌, cond, List, [], ◌∷◌, ◌++◌, length, get_or, take, drop, set, Some, None, sym, ap, ◌∙◌, inl, inr, arith}
+use Rattle.std.proofs.Common.{◌≡◌, ℕ, ◌+◌, ◌<◌, ◌≤◌, List, [], ◌++◌, length, get_or, take, drop, set, None, sym, ap, ◌∙◌, inl, inr, arith}
 use borrow.Rule.Slice.PartMut.{put_mid, same_len_mid}
 use Rattle.std.specs.List.{flat_map}
-use Rattle.std.specs.Str.{bytes_eq}
-use Rattle.std.proofs.lemmas.List.{length-take, length-drop, take_all, take_more, drop_more, drop_all, flat_map_more, get_or-set_same, get_or-set_other}
+use Rattle.std.proofs.lemmas.List.{length-take, length-drop, take_all, take_more, drop_all, flat_map_more, get_or-set_same, get_or-set_other}
 use Rattle.std.proofs.lemmas.Slice.{take-put_mid}
 use Rattle.std.proofs.lemmas.Bool.{cases_eq}
 use Rattle.image.specs.Verdict.{differing}
@@ -40,17 +39,6 @@ each_more F xs i x d l e f k h =
       | inl same ↦ ap (λ z. get_or (set xs i x) z d) same ∙ get_or-set_same xs i x d l ∙ e ∙ ap F (sym same)
       | inr other ↦ get_or-set_other xs i k x d other ∙ f k (omega arith)
     ]
-
--- comparing blocks: the next one, and the rest
-module _ (first i : ℕ) (bs xs : List (List ℕ)) (lb : i < length bs) (lx : i < length xs) where
-  pub next_differs :
-      differing (first + i) (drop i bs) (drop i xs)
-      ≡ cond (bytes_eq (get_or bs i []) (get_or xs i [])) (differing (first + (i + 1)) (drop (i + 1) bs) (drop (i + 1) xs)) (Some (first + i))
-  next_differs =
-      let up : suc (first + i) ≡ first + (i + 1) = omega arith in
-      ap (λ z. differing (first + i) z (drop i xs)) (drop_more bs i [] lb)
-      ∙ ap (λ z. differing (first + i) (get_or bs i [] ∷ drop (i + 1) bs) z) (drop_more xs i [] lx)
-      ∙ ap (λ z. cond (bytes_eq (get_or bs i []) (get_or xs i [])) (differing z (drop (i + 1) bs) (drop (i + 1) xs)) (Some (first + i))) up
 
 -- nothing is left to compare
 pub none_left : (k i : ℕ) (bs xs : List (List ℕ)) → length bs ≤ i → differing k (drop i bs) (drop i xs) ≡ None

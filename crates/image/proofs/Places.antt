@@ -1,9 +1,8 @@
 -- Where an item and a row stand.
-use Rattle.std.proofs.Common.{◌≡◌, ℕ, ◌+◌, ◌*◌, ◌/◌, ◌%◌, ◌<◌, List, [], length, get_or, sym, refl, ap, ◌∙◌, arith}
+use Rattle.std.proofs.Common.{◌≡◌, ℕ, ◌+◌, ◌*◌, ◌/◌, ◌%◌, ◌<◌, List, [], length, get_or, refl, ap, ◌∙◌, arith}
 use Rattle.std.proofs.lemmas.List.FromFn.{get_or-map-range_with_len, length-map-range_with_len}
 use Rattle.lists.proofs.Parts.{length-parts, get_or-parts}
 use Rattle.rights.specs.Covers.{free}
-use Rattle.rights.specs.declared.row.Row.{Row}
 use Rattle.layout.specs.Codes.{codes_of}
 use Rattle.layout.specs.Rows.{rows_of}
 use Rattle.image.specs.Home.{at, blocks_at, items_on, rows_on}

@@ -4,12 +4,12 @@ use Rattle.std.proofs.lemmas.Slice.Eq.{bytes_eq-Decides}
 use Rattle.std.proofs.lemmas.List.{length-set, get_or-set_same, get_or-set_other, get_or_default}
 use Rattle.std.proofs.lemmas.Bool.{cases_eq, lt-ltb, le-ltb, eq-eqb, ne_eqb}
 use Rattle.drives.specs.Disk.{Disk, Settled, GainsOnly}
-use Rattle.drives.specs.Calls.{Written, CutWriting, Flushed, Cut, Powered}
+use Rattle.drives.specs.Calls.{Written, CutWriting, Flushed, Cut}
 use Rattle.drives.specs.declared.DriveFault.{DriveFault}
 use Rattle.drives.specs.declared.DriveFault.TheVariants.{Off, NoSuchBlock, BadBuffer, PowerLost}
 use Rattle.trial.specs.Bytes.{blocks_of, with_block, disk_of}
 use Rattle.trial.specs.Schedule.{turn}
-use Rattle.trial.specs.State.{State, Outcome, refused, fault, read_answer, read_buffer, write, write_by, write_unless, flush, flush_by, power}
+use Rattle.trial.specs.State.{State, Outcome, refused, fault, read_answer, read_buffer, write, write_by, write_unless, flush, flush_by}
 use Rattle.trial.specs.declared.fuse.Turn.{Turn}
 use Rattle.trial.specs.declared.fuse.Turn.TheVariants.{Done, Lost}
 use Rattle.trial.proofs.Blocks.{length_blocks, blocks_with}
@@ -116,22 +116,3 @@ module _ (s : State) (r : Answer) (t : State) (answers : r ≡ (flush s).answer)
   flush_goes : (g : Turn) → Flush (flush_by g s).answer (flush_by g s).state
   flush_goes Done = record { on = refl; blocks = refl; settled = settled true s.bytes }
   flush_goes (Lost lands) = (refl, record { off = refl; same_size = refl; gains = λ i x h. h })
-
-  -- with power it is done or loses power
-  pub flush_met : s.on ≡ true → Flush r t
-  flush_met on =
-      rw (answers ∙ ap (λ o. (flush_if o).answer) on, leaves ∙ ap (λ o. (flush_if o).state) on) (flush_goes (turn s.fuse))
-
-  -- without power it is refused, and leaves the drive
-  pub flush_refused : s.on ≡ false → (r ≡ Err Off) × (disk t ≡ disk s)
-  flush_refused off =
-      (answers ∙ ap (λ o. (flush_if o).answer) off, ap disk leaves ∙ ap (λ o. disk (flush_if o).state) off)
-
--- a power call leaves every block as it was, and settled
-pub power_met : (s t : State) → t ≡ power s → Powered (disk s) (disk t)
-power_met s t q = rw q (record {
-  on = refl;
-  same_size = refl;
-  chosen = λ i h. (settled s.on s.bytes).itself i;
-  settled = settled true s.bytes;
-})
