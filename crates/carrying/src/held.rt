@@ -1,5 +1,8 @@
-ghost use Rattle.std.specs.Prelude.{◌≡◌, length};
+ghost use Rattle.std.specs.Prelude.{◌≡◌, length, cond, Ok, nat_lt};
+ghost use Rattle.refusals.specs.declared.reasons.Reason.TheVariants.{AuditFull};
+ghost use Rattle.refusals.specs.Refused.{refused};
 
+use refusals::{Reason, Refusal};
 use rights::Row;
 
 /// What the books hold: the codes of the 64 items, the 32 rows of the rights, and how many records stand.
@@ -10,4 +13,16 @@ pub struct Held {
     pub count: u64,
     ghost all_items: { length items ≡ 64 },
     ghost all_rows: { length rows ≡ 32 },
+}
+
+impl Held {
+    /// Whether there is room for one record more, or the audit is full.
+    pub(crate) fn check_room(&self, room: u64) -> Result<(), Refusal>
+        ensures value { result ≡ cond (nat_lt self.now.count room) (Ok tt) (refused AuditFull self.now.count) }
+    {
+        if self.count >= room {
+            return Err(Refusal::at(Reason::AuditFull, self.count));
+        }
+        Ok(())
+    }
 }

@@ -57,9 +57,7 @@ pub fn post<B: Book>(
     if let Some(item) = first_uncovered(&held.rows, countersigner, p, Role::Countersign, a, b) {
         return Err(Refusal::at(Reason::CountersignerNotEntitled, item));
     }
-    if held.count >= room {
-        return Err(Refusal::at(Reason::AuditFull, held.count));
-    }
+    held.check_room(room)?;
     let codes = (held.items[items.0 as usize], held.items[items.1 as usize]);
     match book.step(p, a, b, codes, amount) {
         Ok(new) => take_codes(book, held, items, new),

@@ -1,20 +1,12 @@
 ghost use Rattle.std.specs.Prelude.{◌≡◌, ◌≤◌};
 ghost use Rattle.carrying.specs.Standing.{standing_of};
-ghost use Rattle.carrying.specs.Rows.{checked_row, filled, struck};
+ghost use Rattle.carrying.specs.Rows.{checked_row, filled, certified, struck};
 ghost use Rattle.carrying.specs.Results.{Carries};
 
 use crate::held::Held;
 use books::Book;
 use refusals::{Reason, Refusal, RowPlace};
 use rights::Row;
-
-/// The free row.
-const FREE: Row = Row {
-    user: 0,
-    procedure: 0,
-    role: 0,
-    mask: 0,
-};
 
 /// The row that a certification asks for at a place, or what is at fault with it.
 pub fn check_row<B: Book>(
@@ -51,7 +43,7 @@ pub fn check_row<B: Book>(
 }
 
 /// Fills a free row, if there is room for the record.
-pub(crate) fn fill(room: u64, held: &mut Held, place: u8, row: Row) -> Result<(), Refusal>
+fn fill(room: u64, held: &mut Held, place: u8, row: Row) -> Result<(), Refusal>
     requires within { place ≤ 31 }
     ensures carries { Carries (filled room (standing_of held.old) place row) (standing_of held.old) result (standing_of held.new) }
 {
@@ -59,12 +51,31 @@ pub(crate) fn fill(room: u64, held: &mut Held, place: u8, row: Row) -> Result<()
     if !before.is_free() {
         return Err(Refusal::at(Reason::RowTaken, u64::from(place)));
     }
-    if held.count >= room {
-        return Err(Refusal::at(Reason::AuditFull, held.count));
-    }
+    held.check_room(room)?;
     held.rows[place as usize] = row;
     held.count += 1;
     Ok(())
+}
+
+/// Fills a row, if what is asked for is a row, it is free, and there is room for the record.
+pub(crate) fn certify<B: Book>(
+    book: &B,
+    room: u64,
+    held: &mut Held,
+    place: u8,
+    row: Row,
+) -> Result<(), Refusal>
+    ensures carries { Carries (certified B.meaning room (standing_of held.old) place row) (standing_of held.old) result (standing_of held.new) }
+{
+    let checked = check_row(
+        book,
+        u64::from(place),
+        u64::from(row.user),
+        u64::from(row.procedure),
+        u64::from(row.role),
+        row.mask,
+    )?;
+    fill(room, held, place, checked)
 }
 
 /// Frees a row that is taken, if there is such a row and room for the record.
@@ -78,10 +89,8 @@ pub(crate) fn strike(room: u64, held: &mut Held, place: u8) -> Result<(), Refusa
     if before.is_free() {
         return Err(Refusal::at(Reason::RowTaken, u64::from(place)));
     }
-    if held.count >= room {
-        return Err(Refusal::at(Reason::AuditFull, held.count));
-    }
-    held.rows[place as usize] = FREE;
+    held.check_room(room)?;
+    held.rows[place as usize] = Row::FREE;
     held.count += 1;
     Ok(())
 }

@@ -10,14 +10,6 @@ use crate::part::Part;
 use layout::{codes_block, read_codes, read_rows, rows_block};
 use rights::Row;
 
-/// A free row.
-const FREE: Row = Row {
-    user: 0,
-    procedure: 0,
-    role: 0,
-    mask: 0,
-};
-
 /// The 64 codes that eight blocks hold.
 pub fn codes_in(blocks: &[[u8; 64]; 8]) -> [u64; 64]
     ensures value { result ≡ flat_map codes_of blocks.now }
@@ -33,7 +25,7 @@ pub fn codes_in(blocks: &[[u8; 64]; 8]) -> [u64; 64]
 pub fn rows_in(blocks: &[[u8; 64]; 8]) -> [Row; 32]
     ensures value { result ≡ flat_map rows_of blocks.now }
 {
-    let mut rows = [FREE; 32];
+    let mut rows = [Row::FREE; 32];
     for i in 0..8 {
         rows[4 * i..4 * i + 4].copy_from_slice(&read_rows(&blocks[i]));
     }
@@ -59,7 +51,7 @@ pub fn rows_blocks(rows: &[Row; 32]) -> [[u8; 64]; 8]
 {
     let mut made = [[0; 64]; 8];
     for i in 0..8 {
-        let mut four = [FREE; 4];
+        let mut four = [Row::FREE; 4];
         four.copy_from_slice(&rows[4 * i..4 * i + 4]);
         made[i] = rows_block(&four);
     }

@@ -17,14 +17,6 @@ use records::{Record, decode};
 use refusals::{Reason, Refusal};
 use rights::Row;
 
-/// A free row.
-const FREE: Row = Row {
-    user: 0,
-    procedure: 0,
-    role: 0,
-    mask: 0,
-};
-
 /// Whether a head is this book's and has a count for which there is room.
 fn is_own<B: Book>(book: &B, room: u64, head: Head) -> bool
     ensures value { result ≡ (head.kind == B.meaning.kind && nat_le head.count room) }
@@ -56,7 +48,7 @@ pub(crate) fn check_opening<B: Book>(book: &B, blocks: &[[u8; 64]; 8]) -> Result
     }
     Ok(Held {
         items,
-        rows: [FREE; 32],
+        rows: [Row::FREE; 32],
         count: 0,
     })
 }

@@ -38,13 +38,13 @@ pub fn read_codes(block: &[u8; 64]) -> [u64; 8]
     ensures value { result ≡ codes_of block.now }
 {
     [
-        eight_at(block, 0),
-        eight_at(block, 8),
-        eight_at(block, 16),
-        eight_at(block, 24),
-        eight_at(block, 32),
-        eight_at(block, 40),
-        eight_at(block, 48),
-        eight_at(block, 56),
+        read_code(block, 0),
+        read_code(block, 1),
+        read_code(block, 2),
+        read_code(block, 3),
+        read_code(block, 4),
+        read_code(block, 5),
+        read_code(block, 6),
+        read_code(block, 7),
     ]
 }

@@ -15,3 +15,13 @@ pub struct Row {
     pub role: u8,
     pub mask: u64,
 }
+
+impl Row {
+    /// The free row: all zero.
+    pub const FREE: Row = Row {
+        user: 0,
+        procedure: 0,
+        role: 0,
+        mask: 0,
+    };
+}
