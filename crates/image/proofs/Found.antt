@@ -2,13 +2,11 @@
 use Rattle.std.proofs.Common.{◌≡◌, ℕ, ◌+◌, ◌-◌, ◌<◌, ◌≤◌, true, List, [], length, get_or, Ok, Err, Result, sym, ap, ◌∙◌, subst, inl, inr, arith}
 use Rattle.std.proofs.lemmas.List.FromFn.{get_or-map-range_with_len, length-map-range_with_len}
 use Rattle.std.proofs.lemmas.List.{get_or-drop, ext_get_or}
-use Rattle.std.proofs.lemmas.Bool.{both_ways, cases_Bool, cases_lt}
+use Rattle.std.proofs.lemmas.Bool.{both_ways}
 use Rattle.drives.specs.declared.DriveFault.{DriveFault}
-use Rattle.drives.specs.declared.DriveFault.TheVariants.{Off, NoSuchBlock}
 use Rattle.drives.specs.Disk.{Disk, present, size}
 use Rattle.journals.specs.Redo.{home}
-use Rattle.journals.specs.Outcomes.{ReadsBlock}
-use Rattle.journals.proofs.Reading.{WasNotRead, was_read, not_ok, same_ok}
+use Rattle.journals.proofs.Reading.{WasNotRead}
 use Rattle.image.specs.Home.{at, blocks_at}
 use Rattle.image.specs.Parts.{ReadsPart}
 
@@ -52,26 +50,3 @@ pub read_as :
     → r ≡ Err f → f ≡ e → first ≡ k → ReadsPart d first (Err e) → ReadsPart d k r
 read_as d first k r e f p q s h =
     subst (λ (z : ℕ). ReadsPart d z r) s (subst (λ (z : Result (List (List ℕ)) DriveFault). ReadsPart d first z) (sym (p ∙ ap Err q)) h)
-
--- a home block that was read
-pub block_found : (d : Disk) (k : ℕ) (x : List ℕ) → 7 ≤ k → ReadsBlock d k (Ok x) → x ≡ at (home d.blocks) k
-block_found d k x low r = (was_read d k x r).content ∙ sym (at_home d.blocks k low)
-
--- a part that was read
-pub part_found : (d : Disk) (k : ℕ) (xs : List (List ℕ)) → ReadsPart d k (Ok xs) → xs ≡ blocks_at (home d.blocks) k 8
-part_found d k xs r =
-    elim (cases_Bool d.on) [
-      | inr off ↦ not_ok xs Off (r.refused_off off)
-      | inl on ↦ elim (cases_lt (size d) (k + 8)) [
-        | inl beyond ↦ not_ok xs NoSuchBlock (r.refused_beyond on beyond)
-        | inr within ↦ same_ok xs (blocks_at (home d.blocks) k 8) (r.met on within)
-      ]
-    ]
-
--- a part that is there is read
-pub part_there : {X : Type 0} (d : Disk) (k : ℕ) (e : DriveFault) → ReadsPart d k (Err e) → d.on ≡ true → k + 8 ≤ size d → X
-part_there d k e r on wide = not_ok (blocks_at (home d.blocks) k 8) e (sym (r.met on wide))
-
--- a block that is there is read
-pub block_there : {X : Type 0} (d : Disk) (k : ℕ) (e : DriveFault) → ReadsBlock d k (Err e) → d.on ≡ true → k < size d → X
-block_there d k e r on wide = not_ok (present d k) e (sym (r.met on wide))

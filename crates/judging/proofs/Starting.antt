@@ -8,7 +8,6 @@ use Rattle.refusals.specs.declared.refusal.Refusal.{Refusal}
 use Rattle.refusals.specs.Places.{power_place_number}
 use Rattle.refusals.specs.Refused.{refused}
 use Rattle.books.specs.Meaning.{Meaning}
-use Rattle.drives.specs.declared.DriveFault.{DriveFault}
 use Rattle.drives.specs.Disk.{Disk, present, size}
 use Rattle.changes.specs.Commit.{Lawful, lawful_commit}
 use Rattle.changes.proofs.Testing.{lawful_decides}
@@ -110,11 +109,3 @@ module _ (m : Meaning) (d p e : Disk) (fits : lawful_size (size d) ≡ true) (po
   inspect_unfinished r fault.Off f a = inspect_lost r fault.Off (λ q. (let z : ◌≡◌ {A = ℕ} 0 1 = cc in omega arith)) f a
   inspect_unfinished r fault.Unlawful f a = inspect_unlawful r f a
   inspect_unfinished r fault.PowerLost f a = inspect_lost r fault.PowerLost (λ q. (let z : ◌≡◌ {A = ℕ} 0 1 = cc in omega arith)) f a
-
--- power was lost at once
-pub inspect_dark : (m : Meaning) (d e : Disk) (r : Result ℕ Refusal) (x : DriveFault) → lawful_size (size d) ≡ true → PowersOn d (Err x) e → r ≡ refused PowerLost (power_place_number Starting) → Inspects m d r e
-inspect_dark m d e r x fits p a =
-    record {
-      refused_size = λ f. absurd (both_ways _ f fits);
-      met = λ _. inl (record { answer = a; cut = p.met.1; adds_nothing = p.stands });
-    }
