@@ -1,32 +1,19 @@
--- The search for the procedure that a word names, one word at a time.
-use Rattle.std.proofs.Common.{◌≡◌, ℕ, zero, suc, ◌+◌, ◌<◌, ◌≤◌, Bool, cond, List, [], ◌∷◌, length, get_or, drop, Some, None, Decides, sym, refl, ap, ◌∙◌, add-one, arith}
+-- The search for the procedure that a word names: the first whose word it is.
+use Rattle.std.proofs.Common.{◌≡◌, ℕ, zero, suc, ◌+◌, cond, List, [], ◌∷◌, length, Some, None, Option, refl, ap, ◌∙◌, add-one, arith}
+use Rattle.std.specs.List.{find, range_with_len}
 use Rattle.std.specs.Str.{bytes_eq}
-use Rattle.std.proofs.lemmas.Slice.Eq.{bytes_eq-Decides}
-use Rattle.std.proofs.lemmas.List.{at_drop_more, at_drop_all}
-use Rattle.books.specs.Words.{at, word_of, is_word, named_from}
+use Rattle.books.specs.Words.{at, word_of, is_word, named, named_from}
 
--- the word at a place within the list
-at_getD : (ws : List (List ℕ)) (k : ℕ) → k < length ws → at ws k ≡ Some (get_or ws k [])
-at_getD [] k l = absurd (omega arith)
-at_getD (w ∷ ws) zero l = refl
-at_getD (w ∷ ws) (suc k) l = at_getD ws k (omega arith)
+-- counted on from k, where g gives the words that are left
+find_from : (g : ℕ → Option (List ℕ)) (ws : List (List ℕ)) (k : ℕ) (w : List ℕ) → ((i : ℕ) → g (k + i) ≡ at ws i) → find (λ p. is_word (g p) w) (range_with_len k (length ws)) ≡ named_from k ws w
+find_from g [] k w h = refl
+find_from g (v ∷ vs) k w h =
+    let here : g k ≡ Some v = ap g (omega arith) ∙ h 0 in
+    let next : find (λ p. is_word (g p) w) (range_with_len (k + 1) (length vs)) ≡ named_from (k + 1) vs w =
+        find_from g vs (k + 1) w (λ i. ap g (omega arith) ∙ h (suc i)) in
+    let e : named_from (k + 1) vs w ≡ named_from (suc k) vs w = ap (λ z. named_from z vs w) (add-one k) in
+    ap (λ o. cond (is_word o w) (Some k) (find (λ p. is_word (g p) w) (range_with_len (k + 1) (length vs)))) here
+    ∙ ap (λ z. cond (bytes_eq v w) (Some k) z) (next ∙ e)
 
--- the test at that place
-tested : (ws : List (List ℕ)) (k : ℕ) (w : List ℕ) (t : Bool) → k < length ws → t ≡ is_word (word_of ws (k + 1)) w → bytes_eq (get_or ws k []) w ≡ t
-tested ws k w t l e =
-    sym (e ∙ ap (λ z. is_word (word_of ws z) w) (add-one k) ∙ ap (λ z. is_word z w) (at_getD ws k l))
-
--- one word, by how its test comes out
-pub named_step : (ws : List (List ℕ)) (k : ℕ) (w : List ℕ) (t : Bool) → k < length ws → t ≡ is_word (word_of ws (k + 1)) w → named_from (k + 1) (drop k ws) w ≡ cond t (Some (k + 1)) (named_from (k + 1 + 1) (drop (k + 1) ws) w)
-named_step ws k w t l e =
-    at_drop_more (λ vs. named_from (k + 1) vs w) ws k [] l
-    ∙ ap (λ z. cond z (Some (k + 1)) (named_from (suc (k + 1)) (drop (k + 1) ws) w)) (tested ws k w t l e)
-    ∙ ap (λ z. cond t (Some (k + 1)) (named_from z (drop (k + 1) ws) w)) (sym (add-one (k + 1)))
-
--- no word is left
-pub named_end : (ws : List (List ℕ)) (k p : ℕ) (w : List ℕ) → length ws ≤ k → named_from p (drop k ws) w ≡ None
-named_end ws k p w l = at_drop_all (λ vs. named_from p vs w) ws k l
-
--- a test that decides whether two texts are equal is `sameBytes`
-pub same_bytes : (xs ys : List ℕ) (r : Bool) → Decides r (xs ≡ ys) → r ≡ bytes_eq xs ys
-same_bytes xs ys r d = search (bytes_eq-Decides, arith)
+pub find_named : (ws : List (List ℕ)) (w : List ℕ) → find (λ p. is_word (word_of ws p) w) (range_with_len 1 (length ws)) ≡ named ws w
+find_named ws w = find_from (word_of ws) ws 1 w (λ i. ap (word_of ws) {y = suc i} (omega arith))

@@ -3,6 +3,7 @@ ghost use Rattle.std.specs.Option.{option_map};
 ghost use Rattle.books.specs.Meaning.{Meaning, KindInRange, CeilingInRange, StepKeepsValid};
 ghost use Rattle.books.specs.Words.{FewWords, ProperWords, word_of};
 
+use crate::draft::Draft;
 use refusals::StepPlace;
 
 /// A book of 64 items, each held as a 64-bit code.
@@ -14,18 +15,14 @@ pub trait Book {
     /// What a code stands for.
     type Item;
 
+    ghost KIND: { ℕ };
+
+    ghost CEILING: { ℕ };
+
     /// What the book means.
     ghost meaning: { Meaning };
     /// The item that a code stands for.
     ghost item: { ℕ → Self.Item };
-
-    /// The constant `KIND`, as generic code can use it.
-    fn kind_number(&self) -> u8
-        ensures value { result ≡ meaning.kind };
-
-    /// The constant `CEILING`, as generic code can use it.
-    fn largest_amount(&self) -> u64
-        ensures value { result ≡ meaning.ceiling };
 
     /// How many procedures have a word.
     fn procedures(&self) -> u64
@@ -47,16 +44,13 @@ pub trait Book {
     fn verify(&self, codes: &[u64]) -> bool
         ensures value { result ≡ meaning.valid codes.now };
 
-    /// The step: the new codes of items a and b, from their codes and an amount, or where it refuses.
-    fn step(
-        &self,
-        procedure: u64,
-        a: u64,
-        b: u64,
-        codes: (u64, u64),
-        amount: u64,
-    ) -> Result<(u64, u64), StepPlace>
-        ensures value { result ≡ meaning.step procedure a b codes.0 codes.1 amount };
+    /// The step: the new codes of items a and b, from their codes, or where it refuses.
+    fn step(&self, draft: Draft, codes: (u64, u64)) -> Result<(u64, u64), StepPlace>
+        ensures value { result ≡ meaning.step draft.procedure draft.a draft.b codes.0 codes.1 draft.amount };
+
+    ghost kind_is: { KIND ≡ meaning.kind };
+
+    ghost ceiling_is: { CEILING ≡ meaning.ceiling };
 
     ghost kind_in_range: { KindInRange meaning };
 

@@ -3,7 +3,9 @@
 #![tactic(auto)]
 
 mod book;
-mod words;
+mod draft;
+mod procedures;
 
 pub use book::Book;
-pub use words::procedure_named;
+pub use draft::Draft;
+pub use procedures::{has_procedure, procedure_named};

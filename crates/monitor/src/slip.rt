@@ -8,6 +8,8 @@ pub struct Slip {
     pub(crate) note: Note,
     pub(crate) enterer: u8,
     pub(crate) house: u32,
+    // A type without `Drop` would need no flag, but then the compiler refuses a slip that is let fall, and the planted
+    // bug that does so never reaches the prover.
     pub(crate) spent: bool,
 }
 

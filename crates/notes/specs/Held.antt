@@ -5,13 +5,7 @@ use Rattle.notes.specs.declared.numbers.Numbers.{Numbers}
 use Rattle.notes.specs.declared.note.Note.{Note}
 
 abbrev pub numbers_of : Note → Numbers
-numbers_of note = record {
-  kind = note.kind;
-  procedure = note.procedure;
-  a = note.a;
-  b = note.b;
-  amount = note.amount;
-}
+numbers_of note = note.numbers
 
 -- the answer of note-making by its numbers
 abbrev pub made_of : Result Note Refusal → Result Numbers Refusal

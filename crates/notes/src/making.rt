@@ -4,41 +4,36 @@ ghost use Rattle.notes.specs.Held.{numbers_of, made_of};
 
 use crate::note::Note;
 use crate::numbers::Numbers;
-use books::Book;
+use books::{Book, Draft, has_procedure};
 use refusals::{Reason, Refusal};
 
-/// Makes a note of typed numbers, or says which of them is at fault.
-pub fn make_note<B: Book>(
-    book: &B,
-    procedure: u64,
-    a: u64,
-    b: u64,
-    amount: u64,
-) -> Result<Note, Refusal>
-    ensures value { made_of result ≡ noted B.meaning procedure a b amount }
+/// Makes a note of a draft, or says which of its numbers is at fault.
+pub fn make_note<B: Book>(book: &B, draft: Draft) -> Result<Note, Refusal>
+    ensures value { made_of result ≡ noted B.meaning draft.procedure draft.a draft.b draft.amount }
 {
-    if procedure < 1 || procedure > book.procedures() {
-        return Err(Refusal::at(Reason::NoSuchProcedure, procedure));
+    if !has_procedure(book, draft.procedure) {
+        return Err(Refusal::at(Reason::NoSuchProcedure, draft.procedure));
     }
-    if a > 63 {
-        return Err(Refusal::at(Reason::NoSuchNoteItem, a));
+    if draft.a > 63 {
+        return Err(Refusal::at(Reason::NoSuchNoteItem, draft.a));
     }
-    if b > 63 {
-        return Err(Refusal::at(Reason::NoSuchNoteItem, b));
+    if draft.b > 63 {
+        return Err(Refusal::at(Reason::NoSuchNoteItem, draft.b));
     }
-    if b == a {
-        return Err(Refusal::at(Reason::SameItem, b));
+    if draft.b == draft.a {
+        return Err(Refusal::at(Reason::SameItem, draft.b));
     }
-    if amount < 1 || amount > book.largest_amount() {
-        return Err(Refusal::at(Reason::BadAmount, amount));
+    if draft.amount < 1 || draft.amount > B::CEILING {
+        return Err(Refusal::at(Reason::BadAmount, draft.amount));
     }
-    Ok(Note {
-        kind: book.kind_number(),
-        procedure: procedure as u8,
-        a: a as u8,
-        b: b as u8,
-        amount,
-    })
+    let numbers = Numbers {
+        kind: B::KIND,
+        procedure: draft.procedure as u8,
+        a: draft.a as u8,
+        b: draft.b as u8,
+        amount: draft.amount,
+    };
+    Ok(Note { numbers })
 }
 
 impl Note {
@@ -46,12 +41,6 @@ impl Note {
     pub fn numbers(&self) -> Numbers
         ensures value { result ≡ numbers_of self.now }
     {
-        Numbers {
-            kind: self.kind,
-            procedure: self.procedure,
-            a: self.a,
-            b: self.b,
-            amount: self.amount,
-        }
+        self.numbers
     }
 }

@@ -1,5 +1,5 @@
 /// The numbers of a note: the book's kind, a procedure, two items and an amount.
-#[derive(Clone, Copy)]
+#[derive(Clone, Copy, PartialEq, Eq, Debug)]
 pub struct Numbers {
     pub kind: u8,
     pub procedure: u8,

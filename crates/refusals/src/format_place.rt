@@ -2,7 +2,7 @@ ghost use Rattle.std.specs.Prelude.{◌≡◌};
 ghost use Rattle.refusals.specs.Places.{format_place_number};
 
 /// Which argument of format is at fault (16).
-#[derive(Clone, Copy)]
+#[derive(Clone, Copy, PartialEq, Eq, Debug)]
 pub enum FormatPlace {
     /// The house number is 0.
     House = 1,
@@ -12,11 +12,11 @@ pub enum FormatPlace {
     Opening = 3,
 }
 
-impl FormatPlace {
-    /// The place that people see.
-    pub fn place(self) -> u64
-        ensures value { result ≡ format_place_number self }
-    {
-        self as u64
+/// The place that people see.
+impl From<FormatPlace> for u64 {
+    ghost from_gives = { λ p n. n ≡ format_place_number p };
+
+    fn from(place: FormatPlace) -> u64 {
+        place as u64
     }
 }

@@ -2,7 +2,7 @@ ghost use Rattle.std.specs.Prelude.{◌≡◌};
 ghost use Rattle.refusals.specs.Places.{power_place_number};
 
 /// Where power was lost (7).
-#[derive(Clone, Copy)]
+#[derive(Clone, Copy, PartialEq, Eq, Debug)]
 pub enum PowerPlace {
     /// The monitor was dark already: it lost power in an earlier call.
     Dark = 0,
@@ -16,11 +16,11 @@ pub enum PowerPlace {
     Starting = 4,
 }
 
-impl PowerPlace {
-    /// The place that people see.
-    pub fn place(self) -> u64
-        ensures value { result ≡ power_place_number self }
-    {
-        self as u64
+/// The place that people see.
+impl From<PowerPlace> for u64 {
+    ghost from_gives = { λ p n. n ≡ power_place_number p };
+
+    fn from(place: PowerPlace) -> u64 {
+        place as u64
     }
 }

@@ -1,8 +1,10 @@
-ghost use Rattle.std.specs.Prelude.{◌≡◌};
+ghost use Rattle.std.specs.Prelude.{◌≡◌, Some};
 ghost use Rattle.refusals.specs.Numbers.{number};
 ghost use Rattle.refusals.specs.Layers.{layer_of};
 ghost use Rattle.refusals.specs.Rules.{rule_of};
 ghost use Rattle.refusals.specs.Texts.{meaning_of, layer_name, rule_name};
+
+use std::fmt;
 
 /// Why a call refuses. Each case's discriminant is the number that people see; 25 is no refusal.
 #[derive(Clone, Copy, PartialEq, Eq, Debug)]
@@ -60,7 +62,7 @@ pub enum Reason {
 }
 
 /// Which part of the system refuses.
-#[derive(Clone, Copy)]
+#[derive(Clone, Copy, PartialEq, Eq, Debug)]
 pub enum Layer {
     Note,
     House,
@@ -72,7 +74,7 @@ pub enum Layer {
 }
 
 /// The rule of Clark and Wilson that a refusal guards: certification rules C1 to C5, enforcement rules E1 to E4.
-#[derive(Clone, Copy)]
+#[derive(Clone, Copy, PartialEq, Eq, Debug)]
 pub enum Rule {
     C1,
     C2,
@@ -86,13 +88,6 @@ pub enum Rule {
 }
 
 impl Reason {
-    /// The number that people see.
-    pub fn number(self) -> u8
-        ensures value { result ≡ number self }
-    {
-        self as u8
-    }
-
     /// The layer that refuses.
     pub fn layer(self) -> Layer
         ensures value { result ≡ layer_of self }
@@ -150,12 +145,23 @@ impl Reason {
             | Reason::NoSuchEntry => None,
         }
     }
+}
 
-    /// What the refusal means, in a few words.
-    pub fn meaning(self) -> &'static str
-        ensures value { result.now ≡ meaning_of self }
-    {
-        match self {
+/// The number that people see.
+impl From<Reason> for u8 {
+    ghost from_gives = { λ r n. n ≡ number r };
+
+    fn from(reason: Reason) -> u8 {
+        reason as u8
+    }
+}
+
+/// What the refusal means, in a few words.
+impl fmt::Display for Reason {
+    ghost output = { λ x. Some (meaning_of x) };
+
+    fn fmt<W: fmt::Write>(&self, f: &mut fmt::Formatter<W>) -> fmt::Result {
+        f.write_str(match self {
             Reason::NoSuchProcedure => "the book has no such procedure",
             Reason::NoSuchNoteItem => "there is no such item",
             Reason::SameItem => "the two items are the same",
@@ -181,16 +187,16 @@ impl Reason {
             Reason::BadRow => "the row cannot be certified or struck",
             Reason::RowTaken => "the row is taken, or free already",
             Reason::NoSuchEntry => "there is no such item or record",
-        }
+        })
     }
 }
 
-impl Layer {
-    /// The layer's name as it is printed.
-    pub fn name(self) -> &'static str
-        ensures value { result.now ≡ layer_name self }
-    {
-        match self {
+/// The layer's name.
+impl fmt::Display for Layer {
+    ghost output = { λ x. Some (layer_name x) };
+
+    fn fmt<W: fmt::Write>(&self, f: &mut fmt::Formatter<W>) -> fmt::Result {
+        f.write_str(match self {
             Layer::Note => "note",
             Layer::House => "house",
             Layer::Drive => "drive",
@@ -198,16 +204,16 @@ impl Layer {
             Layer::Image => "image",
             Layer::Book => "book",
             Layer::Monitor => "monitor",
-        }
+        })
     }
 }
 
-impl Rule {
-    /// The rule's name as it is printed.
-    pub fn name(self) -> &'static str
-        ensures value { result.now ≡ rule_name self }
-    {
-        match self {
+/// The rule's name.
+impl fmt::Display for Rule {
+    ghost output = { λ x. Some (rule_name x) };
+
+    fn fmt<W: fmt::Write>(&self, f: &mut fmt::Formatter<W>) -> fmt::Result {
+        f.write_str(match self {
             Rule::C1 => "C1",
             Rule::C2 => "C2",
             Rule::C3 => "C3",
@@ -217,6 +223,6 @@ impl Rule {
             Rule::E2 => "E2",
             Rule::E3 => "E3",
             Rule::E4 => "E4",
-        }
+        })
     }
 }

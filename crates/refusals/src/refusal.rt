@@ -21,13 +21,18 @@ impl Refusal {
     }
 }
 
-/// The rule's name, or that there is none.
-fn rule_text(rule: Option<Rule>) -> &'static str
-    ensures value { result.now ≡ guarded rule }
-{
-    match rule {
-        Some(rule) => rule.name(),
-        None => "no rule",
+/// The rule that a refusal guards, if it guards one, as it is printed.
+#[derive(Clone, Copy)]
+struct Guarded(Option<Rule>);
+
+impl fmt::Display for Guarded {
+    ghost output = { λ g. Some (guarded g.0) };
+
+    fn fmt<W: fmt::Write>(&self, f: &mut fmt::Formatter<W>) -> fmt::Result {
+        match self.0 {
+            Some(rule) => write!(f, "{rule}"),
+            None => f.write_str("no rule"),
+        }
     }
 }
 
@@ -36,14 +41,14 @@ impl fmt::Display for Refusal {
     ghost output = { λ r. Some (line r) };
 
     fn fmt<W: fmt::Write>(&self, f: &mut fmt::Formatter<W>) -> fmt::Result {
-        let number = self.reason.number();
-        let layer = self.reason.layer().name();
-        let rule = rule_text(self.reason.rule());
+        let reason = self.reason;
         let place = self.place;
-        let meaning = self.reason.meaning();
+        let number = u8::from(reason);
+        let layer = reason.layer();
+        let rule = Guarded(reason.rule());
         write!(
             f,
-            "refusal {number} ({layer}, {rule}), place {place}: {meaning}"
+            "refusal {number} ({layer}, {rule}), place {place}: {reason}"
         )
     }
 }

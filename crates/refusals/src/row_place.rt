@@ -2,7 +2,7 @@ ghost use Rattle.std.specs.Prelude.{◌≡◌};
 ghost use Rattle.refusals.specs.Places.{row_place_number};
 
 /// Which argument of certify or strike is at fault (23), in the order of the tests.
-#[derive(Clone, Copy)]
+#[derive(Clone, Copy, PartialEq, Eq, Debug)]
 pub enum RowPlace {
     /// The row is above 31.
     Row = 1,
@@ -16,11 +16,11 @@ pub enum RowPlace {
     Mask = 5,
 }
 
-impl RowPlace {
-    /// The place that people see.
-    pub fn place(self) -> u64
-        ensures value { result ≡ row_place_number self }
-    {
-        self as u64
+/// The place that people see.
+impl From<RowPlace> for u64 {
+    ghost from_gives = { λ p n. n ≡ row_place_number p };
+
+    fn from(place: RowPlace) -> u64 {
+        place as u64
     }
 }

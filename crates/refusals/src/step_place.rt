@@ -12,11 +12,11 @@ pub enum StepPlace {
     Values = 3,
 }
 
-impl StepPlace {
-    /// The place that people see.
-    pub fn place(self) -> u64
-        ensures value { result ≡ step_place_number self }
-    {
-        self as u64
+/// The place that people see.
+impl From<StepPlace> for u64 {
+    ghost from_gives = { λ p n. n ≡ step_place_number p };
+
+    fn from(place: StepPlace) -> u64 {
+        place as u64
     }
 }
