@@ -2,24 +2,24 @@
 // reads one from a place among other bytes.
 #![tactic(auto)]
 
-ghost use Rattle.std.specs.Prelude.{◌≡◌, ◌+◌, ◌<◌, ◌≤◌, length};
+ghost use Rattle.std.specs.Prelude.{◌≡◌, ◌+◌, ◌<◌, ◌≤◌, length, take, drop, is_some, IfSome, nat_le};
 ghost use Rattle.encoding.specs.Numbers.{four_from, eight_from};
 ghost use Rattle.encoding.specs.Rounds.{ReadBack};
+
+/// The first N bytes from a place on, if they are all there.
+fn bytes_at<const N: usize>(bytes: &[u8], place: usize) -> Option<&[u8; N]>
+    ensures found { IfSome result (λ x. x.now ≡ take N (drop place bytes.now)) }
+    ensures there { is_some result ≡ nat_le (place + N) (length bytes.now) }
+{
+    bytes.get(place..)?.first_chunk()
+}
 
 /// The number that four bytes from a place on hold; 0 where they are not all there.
 pub fn four_at(bytes: &[u8], place: usize) -> u32
     ensures value { place + 4 ≤ length bytes.now → result ≡ four_from bytes.now place }
     ensures beyond { length bytes.now < place + 4 → result ≡ 0 }
 {
-    if bytes.len() < 4 || place > bytes.len() - 4 {
-        return 0;
-    }
-    u32::from_le_bytes([
-        bytes[place],
-        bytes[place + 1],
-        bytes[place + 2],
-        bytes[place + 3],
-    ])
+    bytes_at(bytes, place).map_or(0, |found| u32::from_le_bytes(*found))
 }
 
 /// The number that eight bytes from a place on hold; 0 where they are not all there.
@@ -27,19 +27,7 @@ pub fn eight_at(bytes: &[u8], place: usize) -> u64
     ensures value { place + 8 ≤ length bytes.now → result ≡ eight_from bytes.now place }
     ensures beyond { length bytes.now < place + 8 → result ≡ 0 }
 {
-    if bytes.len() < 8 || place > bytes.len() - 8 {
-        return 0;
-    }
-    u64::from_le_bytes([
-        bytes[place],
-        bytes[place + 1],
-        bytes[place + 2],
-        bytes[place + 3],
-        bytes[place + 4],
-        bytes[place + 5],
-        bytes[place + 6],
-        bytes[place + 7],
-    ])
+    bytes_at(bytes, place).map_or(0, |found| u64::from_le_bytes(*found))
 }
 
 /// A theorem: a number is read back from its bytes, and bytes are those of the number that they hold.

@@ -1,7 +1,8 @@
 -- The row question, one row at a time.
 use Rattle.std.proofs.Common.{◌≡◌, ℕ, ◌+◌, ◌<◌, ◌≤◌, Bool, true, false, ◌||◌, List, length, get_or, drop, sym, ap, ◌∙◌}
 use Rattle.std.proofs.lemmas.List.{at_drop_more, at_drop_all}
-use Rattle.rights.specs.Covers.{Asked, covers, covered}
+use Rattle.rights.specs.Covers.{covers, covered}
+use Rattle.rights.specs.declared.row.Asked.{Asked}
 use Rattle.rights.specs.declared.row.Row.{Row}
 
 module _ (rows : List Row) (q : Asked) (i k : ℕ) (d : Row) (x : Bool) (rest : covered (drop k rows) q i ≡ x) where

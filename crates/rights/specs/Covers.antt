@@ -1,6 +1,7 @@
 -- Who may do what: the rows of the rights table.
 use Rattle.std.specs.Prelude.{ℕ, ◌/◌, ◌%◌, ◌^◌, Bool, false, cond, ◌&&◌, ◌||◌, List, [], ◌∷◌, Some, None, Option, ◌==◌}
 use Rattle.rights.specs.declared.row.Row.{Row}
+use Rattle.rights.specs.declared.row.Asked.{Asked}
 use Rattle.rights.specs.declared.row.Role.{Role}
 use Rattle.rights.specs.declared.row.Role.TheVariants.{Enter, Countersign}
 
@@ -9,15 +10,13 @@ abbrev pub role_number : Role → ℕ
 role_number Enter = 1
 role_number Countersign = 2
 
+-- a number is a role's
+abbrev pub is_role : ℕ → Bool
+is_role n = n == 1 || n == 2
+
 -- the bit of value 2 ^ i stands for item i
 abbrev pub has_item : ℕ → ℕ → Bool
 has_item mask i = mask / 2 ^ i % 2 == 1
-
--- what is asked of the rows: may this user do this procedure in this role
-pub record Asked : Type 0 where
-  pub user : ℕ
-  pub procedure : ℕ
-  pub role : Role
 
 -- a row covers an item for a user, procedure and role if it names those three and has the item's bit
 abbrev pub covers : Row → Asked → ℕ → Bool

@@ -5,4 +5,4 @@ mod asking;
 mod row;
 
 pub use asking::{covering_row, first_uncovered};
-pub use row::{Role, Row};
+pub use row::{Asked, NoSuchRole, Role, Row};
