@@ -1,5 +1,6 @@
 -- What is written in a block is read back, and a block is the form of what is read from it.
 use Rattle.std.proofs.Common.{◌≡◌, ◌≢◌, MatchOption, Option, ℕ, ◌+◌, ◌-◌, ◌*◌, ◌^◌, ◌<◌, ◌≤◌, Bool, true, false, cond, eqb, List, [], ◌∷◌, ◌++◌, length, get_or, take, drop, Some, None, sym, refl, ap, ◌∙◌, subst, arith}
+use Rattle.std.specs.Bool.{then_some}
 use Rattle.std.specs.Str.{bytes_eq}
 use Rattle.std.proofs.lemmas.Slice.Eq.{bytes_eq-Decides}
 use Rattle.std.proofs.lemmas.List.{drop-drop, drop-take, take-take}
@@ -155,11 +156,16 @@ read_back =
       last_read = last_read;
     }
 
+then_some_cond : {X : Type 0} (t : Bool) (x : X) → then_some t x ≡ cond t (Some x) None
+then_some_cond true x = refl
+then_some_cond false x = refl
+
 -- what the tests of a head answer
-pub head_answer : (f : Head) (c : List ℕ) (t : Bool) → f ≡ fields_of_head c → (f.house ≡ 0 → ⊥) → t ≡ bytes_eq (head_form f) c → cond t (Some f) None ≡ head_of c
+pub head_answer : (f : Head) (c : List ℕ) (t : Bool) → f ≡ fields_of_head c → (f.house ≡ 0 → ⊥) → t ≡ bytes_eq (head_form f) c → then_some t f ≡ head_of c
 head_answer f c t e nz same =
     let house : eqb (fields_of_head c).house 0 ≡ false = ne_eqb _ 0 (λ z. nz (ap (λ (y : Head). y.house) e ∙ z)) in
-    ap (λ z. cond z (Some f) None) same
+    then_some_cond t f
+    ∙ ap (λ z. cond z (Some f) None) same
     ∙ ap (λ (y : Head). cond (bytes_eq (head_form y) c) (Some y) None) e
     ∙ sym (ap (λ z. cond z None (cond (bytes_eq (head_form (fields_of_head c)) c) (Some (fields_of_head c)) None)) house)
 

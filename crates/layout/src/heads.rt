@@ -36,9 +36,5 @@ pub fn read_head(block: &[u8; 64]) -> Option<Head>
     if head.house == 0 {
         return None;
     }
-    if head_block(head) == *block {
-        Some(head)
-    } else {
-        None
-    }
+    (head_block(head) == *block).then_some(head)
 }

@@ -1,32 +1,20 @@
-ghost use Rattle.std.specs.Prelude.{◌≡◌, ◌+◌, ◌≤◌};
+ghost use Rattle.std.specs.Prelude.{◌≡◌, ◌*◌, ◌<◌};
 ghost use Rattle.layout.specs.Rows.{row_form, rows_form, row_from, rows_of};
 
 use encoding::eight_at;
 use rights::Row;
+use std::array;
 
 /// The 16 bytes of a row.
 fn row_bytes(row: Row) -> [u8; 16]
     ensures value { result ≡ row_form row }
 {
-    let [a, b, c, d, e, f, g, h] = row.mask.to_le_bytes();
-    [
-        row.user,
-        row.procedure,
-        row.role,
-        0,
-        0,
-        0,
-        0,
-        0,
-        a,
-        b,
-        c,
-        d,
-        e,
-        f,
-        g,
-        h,
-    ]
+    let mut bytes = [0; 16];
+    bytes[0] = row.user;
+    bytes[1] = row.procedure;
+    bytes[2] = row.role;
+    bytes[8..].copy_from_slice(&row.mask.to_le_bytes());
+    bytes
 }
 
 /// The block of four rows.
@@ -34,23 +22,23 @@ pub fn rows_block(rows: &[Row; 4]) -> [u8; 64]
     ensures value { result ≡ rows_form rows.now }
 {
     let mut block = [0; 64];
-    block[0..16].copy_from_slice(&row_bytes(rows[0]));
-    block[16..32].copy_from_slice(&row_bytes(rows[1]));
-    block[32..48].copy_from_slice(&row_bytes(rows[2]));
-    block[48..64].copy_from_slice(&row_bytes(rows[3]));
+    block.copy_from_slice(rows.map(row_bytes).as_flattened());
     block
 }
 
-/// The row that a block's fields give from a byte on.
+/// The row that a block's fields give at a place from 0 to 3; the free row from there on.
 fn row_at(block: &[u8; 64], place: usize) -> Row
-    requires within { place + 16 ≤ 64 }
-    ensures value { result ≡ row_from block.now place }
+    ensures value { place < 4 → result ≡ row_from block.now (16 * place) }
 {
+    if place >= 4 {
+        return Row::FREE;
+    }
+    let at = 16 * place;
     Row {
-        user: block[place],
-        procedure: block[place + 1],
-        role: block[place + 2],
-        mask: eight_at(block, place + 8),
+        user: block[at],
+        procedure: block[at + 1],
+        role: block[at + 2],
+        mask: eight_at(block, at + 8),
     }
 }
 
@@ -58,10 +46,5 @@ fn row_at(block: &[u8; 64], place: usize) -> Row
 pub fn read_rows(block: &[u8; 64]) -> [Row; 4]
     ensures value { result ≡ rows_of block.now }
 {
-    [
-        row_at(block, 0),
-        row_at(block, 16),
-        row_at(block, 32),
-        row_at(block, 48),
-    ]
+    array::from_fn(|place| row_at(block, place))
 }

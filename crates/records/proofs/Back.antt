@@ -1,5 +1,6 @@
 -- A record is read back from its block.
 use Rattle.std.proofs.Common.{◌≡◌, ℕ, cond, false, List, Some, None, Option, sym, refl, ap, ◌∙◌, inl, inr, arith}
+use Rattle.std.specs.Prelude.{◌≢◌, MatchOption}
 use Rattle.std.specs.Str.{bytes_eq}
 use Rattle.std.proofs.lemmas.Slice.Eq.{bytes_eq-Decides}
 use Rattle.std.proofs.lemmas.Bool.{cases_Bool}
@@ -11,8 +12,8 @@ use Rattle.records.specs.declared.record.Record.TheVariants.{Posting, Certificat
 
 -- a record's fields are read back
 pub parsed_back : (k : ℕ) (x : Record) → Fits x → parsed (encoded k x) ≡ Some x
-parsed_back k (Posting e c p a b n) h = ap (λ z. Some (Posting e c p a b z)) (eight_sum n h)
-parsed_back k (Certification u p r w m) h = ap (λ z. Some (Certification u p r w z)) (eight_sum m h)
+parsed_back k (Posting p) h = ap (λ z. Some (Posting (record { enterer = p.enterer; countersigner = p.countersigner; procedure = p.procedure; a = p.a; b = p.b; amount = z }))) (eight_sum p.amount h)
+parsed_back k (Certification c) h = ap (λ z. Some (Certification (record { user = c.user; procedure = c.procedure; role = c.role; row = c.row; mask = z }))) (eight_sum c.mask h)
 parsed_back k (Strike w) h = refl
 
 -- the record is read back
@@ -37,11 +38,11 @@ form_of k c x (Some y) e =
 
 -- what is read back from its own form fits
 fits_back : (k : ℕ) (x : Record) → parsed (encoded k x) ≡ Some x → Fits x
-fits_back k (Posting e c p a b n) h =
-    let same : eight_from (encoded k (Posting e c p a b n)) 8 ≡ n = cc in
+fits_back k (Posting p) h =
+    let same : eight_from (encoded k (Posting p)) 8 ≡ p.amount = cc in
     omega arith
-fits_back k (Certification u p r w m) h =
-    let same : eight_from (encoded k (Certification u p r w m)) 16 ≡ m = cc in
+fits_back k (Certification c) h =
+    let same : eight_from (encoded k (Certification c)) 16 ≡ c.mask = cc in
     omega arith
 fits_back k (Strike w) h = tt
 
@@ -57,9 +58,10 @@ no_other k x c e f =
     let z : ◌≡◌ {A = ℕ} 0 1 = cc in
     omega arith
 
--- a block that is not the form of what its fields give is no record's form
-pub not_form : (k : ℕ) (c : List ℕ) (y : Record) → parsed c ≡ Some y → bytes_eq (encoded k y) c ≡ false → (x : Record) → Fits x → encoded k x ≡ c → ⊥
-not_form k c y p f x h e = no_other k x c (ap (if_form k c) p ∙ ap (λ z. cond z (Some y) None) f) (record { fits = h; form = e })
+-- what was decoded is the record whose form the block is, and there is none where nothing was
+pub decodes : (k : ℕ) (c : List ℕ) (r : Option Record) → r ≡ decoded k c → MatchOption r ((x : Record) → Fits x → encoded k x ≢ c) (λ x. encoded k x ≡ c)
+decodes k c None e = λ x h f. no_other k x c (sym e) (record { fits = h; form = f })
+decodes k c (Some x) e = (exact k x c (sym e)).form
 
 pub one_form : OneForm
 one_form = record { read_back = read_back; exact = exact; no_other = no_other }

@@ -1,7 +1,9 @@
 -- The one form of an audit record: 64 bytes.
-use Rattle.std.specs.Prelude.{◌≡◌, ℕ, ◌^◌, ◌<◌, cond, List, ◌∷◌, ◌++◌, replicate, Some, None, Option, ◌==◌, slice_index}
+use Rattle.std.specs.Prelude.{◌≡◌, ℕ, ◌^◌, ◌<◌, Bool, cond, ◌||◌, List, ◌∷◌, ◌++◌, replicate, Some, None, Option, ◌==◌, slice_index}
 use Rattle.std.specs.Str.{bytes_eq}
 use Rattle.encoding.specs.Numbers.{four_bytes, eight_bytes, eight_from}
+use Rattle.records.specs.declared.kind.Kind.{Kind}
+use Rattle.records.specs.declared.kind.Kind.TheVariants as kind
 use Rattle.records.specs.declared.record.Record.{Record}
 use Rattle.records.specs.declared.record.Record.TheVariants.{Posting, Certification, Strike}
 
@@ -11,25 +13,48 @@ form kind first second procedure role row a b n mask number =
     kind ∷ (first ∷ (second ∷ (procedure ∷ (role ∷ (row ∷ (a ∷ (b
     ∷ (eight_bytes n ++ (eight_bytes mask ++ (four_bytes number ++ replicate 36 0))))))))))
 
+-- the number of a kind of record
+abbrev pub kind_number : Kind → ℕ
+kind_number kind.Posting = 1
+kind_number kind.Certification = 2
+kind_number kind.Strike = 3
+
+-- a number is a kind's
+abbrev pub is_kind : ℕ → Bool
+is_kind n = n == 1 || (n == 2 || n == 3)
+
 -- a posting is kind 1, a certification 2, a strike 3; what a kind does not fill is zero
 abbrev pub encoded : ℕ → Record → List ℕ
-encoded number (Posting enterer countersigner procedure a b n) = form 1 enterer countersigner procedure 0 0 a b n 0 number
-encoded number (Certification user procedure role row mask) = form 2 user 0 procedure role row 0 0 0 mask number
+encoded number (Posting p) = form 1 p.enterer p.countersigner p.procedure 0 0 p.a p.b p.amount 0 number
+encoded number (Certification c) = form 2 c.user 0 c.procedure c.role c.row 0 0 0 c.mask number
 encoded number (Strike row) = form 3 0 0 0 0 row 0 0 0 0 number
 
 -- the amount or mask is of 64 bits
 abbrev pub Fits : Record → Type 0
-Fits (Posting enterer countersigner procedure a b n) = n < 2 ^ 64
-Fits (Certification user procedure role row mask) = mask < 2 ^ 64
+Fits (Posting p) = p.amount < 2 ^ 64
+Fits (Certification c) = c.mask < 2 ^ 64
 Fits (Strike row) = Unit {0}
 
 -- the record that a block's fields give, whatever its other bytes hold
 abbrev pub parsed : List ℕ → Option Record
 parsed c =
     cond (slice_index c 0 == 1)
-    (Some (Posting (slice_index c 1) (slice_index c 2) (slice_index c 3) (slice_index c 6) (slice_index c 7) (eight_from c 8)))
+    (Some (Posting (record {
+      enterer = slice_index c 1;
+      countersigner = slice_index c 2;
+      procedure = slice_index c 3;
+      a = slice_index c 6;
+      b = slice_index c 7;
+      amount = eight_from c 8;
+    })))
     (cond (slice_index c 0 == 2)
-    (Some (Certification (slice_index c 1) (slice_index c 3) (slice_index c 4) (slice_index c 5) (eight_from c 16)))
+    (Some (Certification (record {
+      user = slice_index c 1;
+      procedure = slice_index c 3;
+      role = slice_index c 4;
+      row = slice_index c 5;
+      mask = eight_from c 16;
+    })))
     (cond (slice_index c 0 == 3) (Some (Strike (slice_index c 5))) None))
 
 -- an encoded record is read back from its block

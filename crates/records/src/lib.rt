@@ -2,8 +2,9 @@
 #![tactic(auto)]
 
 mod codec;
+mod kind;
 mod record;
 mod text;
 
 pub use codec::{decode, encode, records_are_read_back, records_have_one_form};
-pub use record::Record;
+pub use record::{Certification, Posting, Record};
