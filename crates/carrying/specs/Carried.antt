@@ -43,10 +43,10 @@ posted m room s enterer countersigner p a b n =
 
 -- one record, where there is room for so many; a posting after the four tests of its note (1 to 4)
 abbrev pub carried : Meaning → ℕ → Standing → Record → Result Standing Refusal
-carried m room s (Posting enterer countersigner p a b n) =
-    and_then (noted m p a b n) (λ _. posted m room s enterer countersigner p a b n)
-carried m room s (Certification user p role k mask) =
-    certified m room s k (record { user = user; procedure = p; role = role; mask = mask })
+carried m room s (Posting p) =
+    and_then (noted m p.procedure p.a p.b p.amount) (λ _. posted m room s p.enterer p.countersigner p.procedure p.a p.b p.amount)
+carried m room s (Certification c) =
+    certified m room s c.row (record { user = c.user; procedure = c.procedure; role = c.role; mask = c.mask })
 carried m room s (Strike k) = struck room s k
 
 -- a list of records in order, up to the first that is refused

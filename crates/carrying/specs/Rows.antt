@@ -8,7 +8,12 @@ use Rattle.refusals.specs.Refused.{refused, and_then}
 use Rattle.books.specs.Meaning.{Meaning, has_procedure}
 use Rattle.rights.specs.Covers.{free, is_free}
 use Rattle.rights.specs.declared.row.Row.{Row}
+use Rattle.carrying.specs.declared.row_draft.RowDraft.{RowDraft}
 use Rattle.carrying.specs.Standing.{Standing, with_row}
+
+-- what a row that is asked for is to hold
+abbrev pub asked_row : RowDraft → Row
+asked_row d = record { user = d.user; procedure = d.procedure; role = d.role; mask = d.mask }
 
 -- the row that a certification asks for, or what is at fault with it (23): the row above 31 (place 1), the user not from
 -- 1 to 15 (2), a procedure without a word (3), a role that is neither 1 nor 2 (4), a mask of 0 (5)

@@ -41,7 +41,7 @@ stepped s a b (Err e) = None
 -- the effect of a record, whatever tests it would pass: two codes that the step gives, a row filled or a row freed, and the
 -- record itself; nothing if the step refuses
 abbrev pub effect : Meaning → Standing → Record → Option Standing
-effect m s (Posting enterer countersigner p a b n) = stepped s a b (step_on m s p a b n)
-effect m s (Certification user p role k mask) =
-    Some (with_row s k (record { user = user; procedure = p; role = role; mask = mask }))
+effect m s (Posting p) = stepped s p.a p.b (step_on m s p.procedure p.a p.b p.amount)
+effect m s (Certification c) =
+    Some (with_row s c.row (record { user = c.user; procedure = c.procedure; role = c.role; mask = c.mask }))
 effect m s (Strike k) = Some (with_row s k free)

@@ -5,9 +5,9 @@
 mod carrying;
 mod held;
 mod posting;
+mod row_draft;
 mod rows;
 
-pub use carrying::carry_out;
 pub use held::Held;
-pub use posting::post;
+pub use row_draft::RowDraft;
 pub use rows::check_row;

@@ -1,66 +1,100 @@
 ghost use Rattle.std.specs.Prelude.{◌≡◌, ◌+◌, ◌<◌};
+ghost use Rattle.records.specs.declared.record.Record.TheVariants.{Posting as OfPosting};
 ghost use Rattle.carrying.specs.Standing.{standing_of, with_codes};
-ghost use Rattle.carrying.specs.Carried.{if_valid, posted};
+ghost use Rattle.carrying.specs.Carried.{carried, if_valid, posted};
 ghost use Rattle.carrying.specs.Results.{Carries};
 
 use crate::held::Held;
-use books::Book;
+use books::{Book, Draft};
+use notes::make_note;
+use records::Posting;
 use refusals::{Reason, Refusal};
-use rights::{Role, first_uncovered};
+use rights::{Asked, Role, first_uncovered};
 
-/// Replaces two codes, unless the list would not be valid then.
-fn take_codes<B: Book>(
-    book: &B,
-    held: &mut Held,
-    items: (u8, u8),
-    codes: (u64, u64),
-) -> Result<(), Refusal>
-    requires a_within { items.0 < 64 }
-    requires b_within { items.1 < 64 }
-    requires room { held.old.count + 1 < 18446744073709551616 }
-    ensures carries { Carries (if_valid B.meaning (with_codes (standing_of held.old) items.0 items.1 codes.0 codes.1)) (standing_of held.old) result (standing_of held.new) }
+/// What the note of a posting was typed as.
+fn draft_of(posting: Posting) -> Draft
+    ensures procedure { result.procedure ≡ posting.procedure }
+    ensures a { result.a ≡ posting.a }
+    ensures b { result.b ≡ posting.b }
+    ensures amount { result.amount ≡ posting.amount }
 {
-    let mut after = held.items;
-    after[items.0 as usize] = codes.0;
-    after[items.1 as usize] = codes.1;
-    if !book.verify(&after) {
-        return Err(Refusal::at(Reason::InvalidAfter, 0));
+    Draft {
+        procedure: u64::from(posting.procedure),
+        a: u64::from(posting.a),
+        b: u64::from(posting.b),
+        amount: posting.amount,
     }
-    held.items = after;
-    held.count += 1;
-    Ok(())
 }
 
-/// Posts a note that passed its tests: two new codes and one record more.
-pub fn post<B: Book>(
-    book: &B,
-    room: u64,
-    held: &mut Held,
-    users: (u8, u8),
-    procedure: u8,
-    items: (u8, u8),
-    amount: u64,
-) -> Result<(), Refusal>
-    ensures carries { Carries (posted B.meaning room (standing_of held.old) users.0 users.1 procedure items.0 items.1 amount) (standing_of held.old) result (standing_of held.new) }
-{
-    let enterer = u64::from(users.0);
-    let countersigner = u64::from(users.1);
-    let p = u64::from(procedure);
-    let a = u64::from(items.0);
-    let b = u64::from(items.1);
-    if countersigner == enterer {
-        return Err(Refusal::at(Reason::SamePerson, countersigner));
+impl Held {
+    /// Replaces two codes, unless the list would not be valid then.
+    fn take_codes<B: Book>(
+        &mut self,
+        book: &B,
+        posting: Posting,
+        codes: (u64, u64),
+    ) -> Result<(), Refusal>
+        requires a_within { posting.a < 64 }
+        requires b_within { posting.b < 64 }
+        requires room { self.old.count + 1 < 18446744073709551616 }
+        ensures carries { Carries (if_valid B.meaning (with_codes (standing_of self.old) posting.a posting.b codes.0 codes.1)) (standing_of self.old) result (standing_of self.new) }
+        ensures same_room { self.new.room ≡ self.old.room }
+    {
+        let mut after = self.items;
+        after[usize::from(posting.a)] = codes.0;
+        after[usize::from(posting.b)] = codes.1;
+        if !book.verify(&after) {
+            return Err(Refusal::at(Reason::InvalidAfter, 0));
+        }
+        self.items = after;
+        self.count += 1;
+        Ok(())
     }
-    if let Some(item) = first_uncovered(&held.rows, enterer, p, Role::Enter, a, b) {
-        return Err(Refusal::at(Reason::EntererNotEntitled, item));
+
+    /// Posts a note that passed its tests: two new codes and one record more.
+    pub fn post<B: Book>(&mut self, book: &B, posting: Posting) -> Result<(), Refusal>
+        ensures carries { Carries (posted B.meaning self.old.room (standing_of self.old) posting.enterer posting.countersigner posting.procedure posting.a posting.b posting.amount) (standing_of self.old) result (standing_of self.new) }
+        ensures same_room { self.new.room ≡ self.old.room }
+    {
+        let draft = draft_of(posting);
+        let enterer = u64::from(posting.enterer);
+        let countersigner = u64::from(posting.countersigner);
+        if countersigner == enterer {
+            return Err(Refusal::at(Reason::SamePerson, countersigner));
+        }
+        let enters = Asked {
+            user: enterer,
+            procedure: draft.procedure,
+            role: Role::Enter,
+        };
+        if let Some(item) = first_uncovered(&self.rows, enters, draft.a, draft.b) {
+            return Err(Refusal::at(Reason::EntererNotEntitled, item));
+        }
+        let countersigns = Asked {
+            user: countersigner,
+            procedure: draft.procedure,
+            role: Role::Countersign,
+        };
+        if let Some(item) = first_uncovered(&self.rows, countersigns, draft.a, draft.b) {
+            return Err(Refusal::at(Reason::CountersignerNotEntitled, item));
+        }
+        self.check_room()?;
+        let codes = (
+            self.items[usize::from(posting.a)],
+            self.items[usize::from(posting.b)],
+        );
+        let new = book
+            .step(draft, codes)
+            .map_err(|place| Refusal::at(Reason::StepRefused, place.into()))?;
+        self.take_codes(book, posting, new)
     }
-    if let Some(item) = first_uncovered(&held.rows, countersigner, p, Role::Countersign, a, b) {
-        return Err(Refusal::at(Reason::CountersignerNotEntitled, item));
-    }
-    held.check_room(room)?;
-    let codes = (held.items[items.0 as usize], held.items[items.1 as usize]);
-    match book.step(p, a, b, codes, amount) {
-        Ok(new) => take_codes(book, held, items, new),
-        Err(place) => Err(Refusal::at(Reason::StepRefused, place.place())),
+
+    /// Posts what a record says, after the four tests of its note.
+    pub(crate) fn post_record<B: Book>(&mut self, book: &B, posting: Posting) -> Result<(), Refusal>
+        ensures carries { Carries (carried B.meaning self.old.room (standing_of self.old) (OfPosting posting)) (standing_of self.old) result (standing_of self.new) }
+        ensures same_room { self.new.room ≡ self.old.room }
+    {
+        make_note(book, draft_of(posting))?;
+        self.post(book, posting)
     }
 }

@@ -1,96 +1,90 @@
 ghost use Rattle.std.specs.Prelude.{◌≡◌, ◌≤◌};
+ghost use Rattle.refusals.specs.declared.reasons.Reason.TheVariants.{BadRow};
+ghost use Rattle.refusals.specs.Places.{row_place_number};
 ghost use Rattle.carrying.specs.Standing.{standing_of};
-ghost use Rattle.carrying.specs.Rows.{checked_row, filled, certified, struck};
+ghost use Rattle.carrying.specs.Rows.{asked_row, checked_row, filled, certified, struck};
 ghost use Rattle.carrying.specs.Results.{Carries};
 
 use crate::held::Held;
-use books::Book;
+use crate::row_draft::RowDraft;
+use books::{Book, has_procedure};
 use refusals::{Reason, Refusal, RowPlace};
-use rights::Row;
+use rights::{Role, Row};
 
-/// The row that a certification asks for at a place, or what is at fault with it.
-pub fn check_row<B: Book>(
-    book: &B,
-    place: u64,
-    user: u64,
-    procedure: u64,
-    role: u64,
-    mask: u64,
-) -> Result<Row, Refusal>
-    ensures value { result ≡ checked_row B.meaning place (record { user = user; procedure = procedure; role = role; mask = mask }) }
+/// A row that cannot be certified or struck, by what is at fault with it.
+fn bad_row(place: RowPlace) -> Refusal
+    ensures reason { result.reason ≡ BadRow }
+    ensures place { result.place ≡ row_place_number place }
 {
-    if place > 31 {
-        return Err(Refusal::at(Reason::BadRow, RowPlace::Row.place()));
+    Refusal::at(Reason::BadRow, place.into())
+}
+
+/// The row that a certification asks for, or what is at fault with it.
+pub fn check_row<B: Book>(book: &B, draft: RowDraft) -> Result<Row, Refusal>
+    ensures value { result ≡ checked_row B.meaning draft.row (asked_row draft) }
+{
+    if draft.row > 31 {
+        return Err(bad_row(RowPlace::Row));
     }
-    if user < 1 || user > 15 {
-        return Err(Refusal::at(Reason::BadRow, RowPlace::User.place()));
+    if draft.user < 1 || draft.user > 15 {
+        return Err(bad_row(RowPlace::User));
     }
-    if procedure < 1 || procedure > book.procedures() {
-        return Err(Refusal::at(Reason::BadRow, RowPlace::Procedure.place()));
+    if !has_procedure(book, draft.procedure) {
+        return Err(bad_row(RowPlace::Procedure));
     }
-    if role != 1 && role != 2 {
-        return Err(Refusal::at(Reason::BadRow, RowPlace::Role.place()));
-    }
-    if mask == 0 {
-        return Err(Refusal::at(Reason::BadRow, RowPlace::Mask.place()));
+    let role = Role::try_from(draft.role).map_err(|_| bad_row(RowPlace::Role))?;
+    if draft.mask == 0 {
+        return Err(bad_row(RowPlace::Mask));
     }
     Ok(Row {
-        user: user as u8,
-        procedure: procedure as u8,
-        role: role as u8,
-        mask,
+        user: draft.user as u8,
+        procedure: draft.procedure as u8,
+        role: role.into(),
+        mask: draft.mask,
     })
 }
 
-/// Fills a free row, if there is room for the record.
-fn fill(room: u64, held: &mut Held, place: u8, row: Row) -> Result<(), Refusal>
-    requires within { place ≤ 31 }
-    ensures carries { Carries (filled room (standing_of held.old) place row) (standing_of held.old) result (standing_of held.new) }
-{
-    let before = held.rows[place as usize];
-    if !before.is_free() {
-        return Err(Refusal::at(Reason::RowTaken, u64::from(place)));
+impl Held {
+    /// Fills a free row, if there is room for the record.
+    fn fill(&mut self, place: u64, row: Row) -> Result<(), Refusal>
+        requires within { place ≤ 31 }
+        ensures carries { Carries (filled self.old.room (standing_of self.old) place row) (standing_of self.old) result (standing_of self.new) }
+        ensures same_room { self.new.room ≡ self.old.room }
+    {
+        let before = self.rows[place as usize];
+        if !before.is_free() {
+            return Err(Refusal::at(Reason::RowTaken, place));
+        }
+        self.check_room()?;
+        self.rows[place as usize] = row;
+        self.count += 1;
+        Ok(())
     }
-    held.check_room(room)?;
-    held.rows[place as usize] = row;
-    held.count += 1;
-    Ok(())
-}
 
-/// Fills a row, if what is asked for is a row, it is free, and there is room for the record.
-pub(crate) fn certify<B: Book>(
-    book: &B,
-    room: u64,
-    held: &mut Held,
-    place: u8,
-    row: Row,
-) -> Result<(), Refusal>
-    ensures carries { Carries (certified B.meaning room (standing_of held.old) place row) (standing_of held.old) result (standing_of held.new) }
-{
-    let checked = check_row(
-        book,
-        u64::from(place),
-        u64::from(row.user),
-        u64::from(row.procedure),
-        u64::from(row.role),
-        row.mask,
-    )?;
-    fill(room, held, place, checked)
-}
+    /// Fills a row, if what is asked for is a row, it is free, and there is room for the record.
+    pub(crate) fn certify<B: Book>(&mut self, book: &B, draft: RowDraft) -> Result<(), Refusal>
+        ensures carries { Carries (certified B.meaning self.old.room (standing_of self.old) draft.row (asked_row draft)) (standing_of self.old) result (standing_of self.new) }
+        ensures same_room { self.new.room ≡ self.old.room }
+    {
+        let row = check_row(book, draft)?;
+        self.fill(draft.row, row)
+    }
 
-/// Frees a row that is taken, if there is such a row and room for the record.
-pub(crate) fn strike(room: u64, held: &mut Held, place: u8) -> Result<(), Refusal>
-    ensures carries { Carries (struck room (standing_of held.old) place) (standing_of held.old) result (standing_of held.new) }
-{
-    if place > 31 {
-        return Err(Refusal::at(Reason::BadRow, RowPlace::Row.place()));
+    /// Frees a row that is taken, if there is such a row and room for the record.
+    pub(crate) fn strike(&mut self, place: u64) -> Result<(), Refusal>
+        ensures carries { Carries (struck self.old.room (standing_of self.old) place) (standing_of self.old) result (standing_of self.new) }
+        ensures same_room { self.new.room ≡ self.old.room }
+    {
+        if place > 31 {
+            return Err(bad_row(RowPlace::Row));
+        }
+        let before = self.rows[place as usize];
+        if before.is_free() {
+            return Err(Refusal::at(Reason::RowTaken, place));
+        }
+        self.check_room()?;
+        self.rows[place as usize] = Row::FREE;
+        self.count += 1;
+        Ok(())
     }
-    let before = held.rows[place as usize];
-    if before.is_free() {
-        return Err(Refusal::at(Reason::RowTaken, u64::from(place)));
-    }
-    held.check_room(room)?;
-    held.rows[place as usize] = Row::FREE;
-    held.count += 1;
-    Ok(())
 }
