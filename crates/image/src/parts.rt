@@ -9,15 +9,14 @@ ghost use Rattle.image.specs.Verdict.{differing};
 use crate::part::Part;
 use layout::{codes_block, read_codes, read_rows, rows_block};
 use rights::Row;
+use std::array;
 
 /// The 64 codes that eight blocks hold.
 pub fn codes_in(blocks: &[[u8; 64]; 8]) -> [u64; 64]
     ensures value { result ≡ flat_map codes_of blocks.now }
 {
     let mut codes = [0; 64];
-    for i in 0..8 {
-        codes[8 * i..8 * i + 8].copy_from_slice(&read_codes(&blocks[i]));
-    }
+    codes.copy_from_slice(blocks.map(|block| read_codes(&block)).as_flattened());
     codes
 }
 
@@ -26,9 +25,7 @@ pub fn rows_in(blocks: &[[u8; 64]; 8]) -> [Row; 32]
     ensures value { result ≡ flat_map rows_of blocks.now }
 {
     let mut rows = [Row::FREE; 32];
-    for i in 0..8 {
-        rows[4 * i..4 * i + 4].copy_from_slice(&read_rows(&blocks[i]));
-    }
+    rows.copy_from_slice(blocks.map(|block| read_rows(&block)).as_flattened());
     rows
 }
 
@@ -36,26 +33,16 @@ pub fn rows_in(blocks: &[[u8; 64]; 8]) -> [Row; 32]
 pub fn codes_blocks(codes: &[u64; 64]) -> [[u8; 64]; 8]
     ensures value { result ≡ blocks_of_codes codes.now }
 {
-    let mut made = [[0; 64]; 8];
-    for i in 0..8 {
-        let mut eight = [0; 8];
-        eight.copy_from_slice(&codes[8 * i..8 * i + 8]);
-        made[i] = codes_block(&eight);
-    }
-    made
+    let (eights, _) = codes.as_chunks();
+    array::from_fn(|i| codes_block(&eights[i]))
 }
 
 /// The eight blocks of 32 rows.
 pub fn rows_blocks(rows: &[Row; 32]) -> [[u8; 64]; 8]
     ensures value { result ≡ blocks_of_rows rows.now }
 {
-    let mut made = [[0; 64]; 8];
-    for i in 0..8 {
-        let mut four = [Row::FREE; 4];
-        four.copy_from_slice(&rows[4 * i..4 * i + 4]);
-        made[i] = rows_block(&four);
-    }
-    made
+    let (fours, _) = rows.as_chunks();
+    array::from_fn(|i| rows_block(&fours[i]))
 }
 
 /// The number of the first block of a part that is not the one expected, if there is one.
@@ -63,10 +50,6 @@ pub fn first_differing(part: Part, found: &[[u8; 64]; 8], expected: &[[u8; 64]; 
     ensures value { result ≡ differing (first_block part) found.now expected.now }
 {
     let first = part.first();
-    for i in 0..8 {
-        if found[i] != expected[i] {
-            return Some(first + i as u64);
-        }
-    }
-    None
+    let place = found.iter().zip(expected).position(|(one, other)| one != other)?;
+    Some(first + place as u64)
 }
