@@ -1,3 +1,4 @@
+pub mod Differing
 pub mod Replaying
 pub mod Comparing
 pub mod Accepting

@@ -1,5 +1,6 @@
 -- Inspecting a drive: power, finishing, and the verdict on what they leave.
 use Rattle.std.proofs.Common.{◌≡◌, ℕ, ◌<◌, ◌≤◌, Bool, true, false, cond, leb, ◌⊎◌, Ok, Err, Result, sym, ap, ◌∙◌, inl, inr, arith}
+use Rattle.std.specs.Prelude.{MatchResult}
 use Rattle.std.proofs.lemmas.Bool.{and_parts, and_from, leb-true, le-leb, both_ways, cases_Bool, cond-true}
 use Rattle.std.proofs.lemmas.Bool.Decides.{not_from_Decides}
 use Rattle.refusals.specs.declared.power_place.PowerPlace.TheVariants.{Starting}
@@ -105,7 +106,12 @@ module _ (m : Meaning) (d p e : Disk) (fits : lawful_size (size d) ≡ true) (po
             inspected r (inl (record { answer = a; lawful = lawful; cut = (f.met powers.met.on wide lawful).1 })))
       ]
 
-  pub inspect_unfinished : (r : Result ℕ Refusal) (x : FinishFault) → Finishes p (Err x) e → r ≡ unfinished_for x → Inspects m d r e
+  inspect_unfinished : (r : Result ℕ Refusal) (x : FinishFault) → Finishes p (Err x) e → r ≡ unfinished_for x → Inspects m d r e
   inspect_unfinished r fault.Off f a = inspect_lost r fault.Off (λ q. (let z : ◌≡◌ {A = ℕ} 0 1 = cc in omega arith)) f a
   inspect_unfinished r fault.Unlawful f a = inspect_unlawful r f a
   inspect_unfinished r fault.PowerLost f a = inspect_lost r fault.PowerLost (λ q. (let z : ◌≡◌ {A = ℕ} 0 1 = cc in omega arith)) f a
+
+  -- finishing did not end, and the answer says so
+  pub inspect_refused : (f : Result (Unit {0}) FinishFault) (r : Result ℕ Refusal) → Finishes p f e → MatchResult f (λ _. ⊥) (λ x. r ≡ unfinished_for x) → Inspects m d r e
+  inspect_refused (Ok x) r f h = absurd h
+  inspect_refused (Err x) r f h = inspect_unfinished r x f h

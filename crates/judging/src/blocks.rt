@@ -1,5 +1,5 @@
 // The parts of the verdict, each on blocks that were read.
-ghost use Rattle.std.specs.Prelude.{◌≡◌, ◌&&◌, Ok, Err, MatchResult, ◌==◌, nat_le};
+ghost use Rattle.std.specs.Prelude.{◌≡◌, ◌&&◌, Ok, Err, MatchResult, IfOk, ◌==◌, nat_le};
 ghost use Rattle.std.specs.List.{flat_map};
 ghost use Rattle.refusals.specs.Refused.{and_then};
 ghost use Rattle.records.specs.Form.{decoded};
@@ -10,37 +10,37 @@ ghost use Rattle.carrying.specs.Carried.{carried};
 ghost use Rattle.image.specs.Verdict.{checked_head, checked_opening, exact_record, at_record};
 
 use books::Book;
-use carrying::{Held, carry_out};
+use carrying::Held;
 use image::codes_in;
 use layout::{Head, read_head};
-use records::{Record, decode};
+use records::decode;
 use refusals::{Reason, Refusal};
 use rights::Row;
 
 /// Whether a head is this book's and has a count for which there is room.
-fn is_own<B: Book>(book: &B, room: u64, head: Head) -> bool
+fn is_own<B: Book>(_book: &B, room: u64, head: Head) -> bool
     ensures value { result ≡ (head.kind == B.meaning.kind && nat_le head.count room) }
 {
-    head.kind == book.kind_number() && u64::from(head.count) <= room
+    head.kind == B::KIND && u64::from(head.count) <= room
 }
 
 /// The head, if it is this book's and has a count for which there is room.
 pub(crate) fn check_head<B: Book>(book: &B, room: u64, block: &[u8; 64]) -> Result<Head, Refusal>
     ensures value { result ≡ checked_head B.meaning room (head_of block.now) }
 {
-    let Some(head) = read_head(block) else {
-        return Err(Refusal::at(Reason::BadHead, 7));
-    };
-    if is_own(book, room, head) {
-        Ok(head)
-    } else {
-        Err(Refusal::at(Reason::BadHead, 7))
-    }
+    read_head(block)
+        .filter(|head| is_own(book, room, *head))
+        .ok_or(Refusal::at(Reason::BadHead, 7))
 }
 
 /// The books as they were opened, if the opening is valid.
-pub(crate) fn check_opening<B: Book>(book: &B, blocks: &[[u8; 64]; 8]) -> Result<Held, Refusal>
+pub(crate) fn check_opening<B: Book>(
+    book: &B,
+    room: u64,
+    blocks: &[[u8; 64]; 8],
+) -> Result<Held, Refusal>
     ensures value { MatchResult result (λ h. checked_opening B.meaning (flat_map codes_of blocks.now) ≡ Ok (standing_of h)) (λ e. checked_opening B.meaning (flat_map codes_of blocks.now) ≡ Err e) }
+    ensures room { IfOk result (λ h. h.room ≡ room) }
 {
     let items = codes_in(blocks);
     if !book.verify(&items) {
@@ -50,32 +50,21 @@ pub(crate) fn check_opening<B: Book>(book: &B, blocks: &[[u8; 64]; 8]) -> Result
         items,
         rows: [Row::FREE; 32],
         count: 0,
+        room,
     })
-}
-
-/// The record that a block holds in exact form with its number.
-fn check_record(number: u32, block: &[u8; 64]) -> Result<Record, Refusal>
-    ensures value { result ≡ exact_record number (decoded number block.now) }
-{
-    match decode(block, number) {
-        Some(entry) => Ok(entry),
-        None => Err(Refusal::at(Reason::BadRecord, u64::from(number))),
-    }
 }
 
 /// Carries out the record that a block holds, if it is in its exact form.
 pub(crate) fn replay_block<B: Book>(
     book: &B,
-    room: u64,
     held: &mut Held,
     number: u32,
     block: &[u8; 64],
 ) -> Result<(), Refusal>
-    ensures value { MatchResult result (λ _. and_then (exact_record number (decoded number block.now)) (λ x. at_record number (carried B.meaning room (standing_of held.old) x)) ≡ Ok (standing_of held.new)) (λ e. and_then (exact_record number (decoded number block.now)) (λ x. at_record number (carried B.meaning room (standing_of held.old) x)) ≡ Err e) }
+    ensures value { MatchResult result (λ _. and_then (exact_record number (decoded number block.now)) (λ x. at_record number (carried B.meaning held.old.room (standing_of held.old) x)) ≡ Ok (standing_of held.new)) (λ e. and_then (exact_record number (decoded number block.now)) (λ x. at_record number (carried B.meaning held.old.room (standing_of held.old) x)) ≡ Err e) }
+    ensures same_room { held.new.room ≡ held.old.room }
 {
-    let entry = check_record(number, block)?;
-    match carry_out(book, room, held, entry) {
-        Ok(()) => Ok(()),
-        Err(_) => Err(Refusal::at(Reason::BadRecord, u64::from(number))),
-    }
+    let bad = Refusal::at(Reason::BadRecord, u64::from(number));
+    let entry = decode(block, number).ok_or(bad)?;
+    held.carry_out(book, entry).map_err(|_| bad)
 }

@@ -26,11 +26,7 @@ pub fn inspect<D: Drive, B: Book>(journal: &mut Journal<D>, book: &B) -> Result<
     if size < 35 || size > 1024 {
         return Err(Refusal::at(Reason::BadSize, size));
     }
-    if let Err(_) = journal.power() {
-        return Err(power_lost());
-    }
-    match journal.finish() {
-        Ok(()) => judge(journal, book),
-        Err(fault) => Err(unfinished(fault)),
-    }
+    journal.power().map_err(|_| power_lost())?;
+    journal.finish().map_err(unfinished)?;
+    judge(journal, book)
 }

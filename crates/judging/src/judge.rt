@@ -23,69 +23,60 @@ use refusals::{PowerPlace, Reason, Refusal};
 pub(crate) fn power_lost() -> Refusal
     ensures value { Err result ≡ refused {X = ℕ} reason.PowerLost (power_place_number place.Starting) }
 {
-    Refusal::at(Reason::PowerLost, PowerPlace::Starting.place())
+    Refusal::at(Reason::PowerLost, PowerPlace::Starting.into())
 }
 
-/// What a home block holds, on a drive that is on and has it.
-fn read_home<D: Drive>(journal: &Journal<D>, block: u64) -> Result<[u8; 64], Refusal>
-    requires on { (D.disk journal.now.drive).on ≡ true }
-    requires low { 7 ≤ block }
-    requires within { block < size (D.disk journal.now.drive) }
-    ensures found { MatchResult result (λ x. x ≡ at (home (D.disk journal.now.drive).blocks) block) (λ _. ⊥) }
-{
-    match journal.read(block) {
-        Ok(content) => Ok(content),
-        Err(_) => Err(power_lost()),
-    }
+/// A journal over a drive that is on and has a lawful size, so that no read of a block that it has fails.
+#[derive(Drop)]
+struct Readable<'a, D: Drive> {
+    journal: &'a Journal<D>,
+    ghost on: { (D.disk journal.now.drive).on ≡ true },
+    ghost lawful: { lawful_size (size (D.disk journal.now.drive)) ≡ true },
 }
 
-/// What a part of the image holds, on a drive that is on and has it.
-fn read_blocks<D: Drive>(journal: &Journal<D>, part: Part) -> Result<[[u8; 64]; 8], Refusal>
-    requires on { (D.disk journal.now.drive).on ≡ true }
-    requires wide { 34 < size (D.disk journal.now.drive) }
-    ensures found { MatchResult result (λ xs. xs ≡ blocks_at (home (D.disk journal.now.drive).blocks) (first_block part) 8) (λ _. ⊥) }
-{
-    match read_part(journal, part) {
-        Ok(contents) => Ok(contents),
-        Err(_) => Err(power_lost()),
+impl<'a, D: Drive> Readable<'a, D> {
+    /// What a home block holds.
+    fn read_home(&self, block: u64) -> Result<[u8; 64], Refusal>
+        requires low { 7 ≤ block }
+        requires within { block < size (D.disk self.now.journal.now.drive) }
+        ensures found { MatchResult result (λ x. x ≡ at (home (D.disk self.now.journal.now.drive).blocks) block) (λ _. ⊥) }
+    {
+        self.journal.read(block).map_err(|_| power_lost())
     }
-}
 
-/// Carries out the records, from the first on.
-fn replay<D: Drive, B: Book>(
-    journal: &Journal<D>,
-    book: &B,
-    room: u64,
-    held: &mut Held,
-    count: u32,
-) -> Result<(), Refusal>
-    requires on { (D.disk journal.now.drive).on ≡ true }
-    requires within { 33 + count < size (D.disk journal.now.drive) }
-    ensures value { MatchResult result (λ _. replayed B.meaning room (home (D.disk journal.now.drive).blocks) count 1 (standing_of held.old) ≡ Ok (standing_of held.new)) (λ e. replayed B.meaning room (home (D.disk journal.now.drive).blocks) count 1 (standing_of held.old) ≡ Err e) }
-{
-    for done in 0..count {
-        let number = done + 1;
-        let block = read_home(journal, 33 + u64::from(number))?;
-        replay_block(book, room, held, number, &block)?;
+    /// What a part of the image holds.
+    fn read_blocks(&self, part: Part) -> Result<[[u8; 64]; 8], Refusal>
+        ensures found { MatchResult result (λ xs. xs ≡ blocks_at (home (D.disk self.now.journal.now.drive).blocks) (first_block part) 8) (λ _. ⊥) }
+    {
+        read_part(self.journal, part).map_err(|_| power_lost())
     }
-    Ok(())
-}
 
-/// Compares items and rows with what stands, and answers the record count if they are the same.
-fn compare<D: Drive>(journal: &Journal<D>, held: &Held, count: u32) -> Result<u64, Refusal>
-    requires on { (D.disk journal.now.drive).on ≡ true }
-    requires wide { 34 < size (D.disk journal.now.drive) }
-    ensures value { result ≡ compared count (differing_block (home (D.disk journal.now.drive).blocks) (standing_of held.now)) }
-{
-    let items = read_blocks(journal, Part::Items)?;
-    if let Some(block) = first_differing(Part::Items, &items, &codes_blocks(&held.items)) {
-        return Err(Refusal::at(Reason::BlockDiffers, block));
+    /// Carries out the records, from the first on.
+    fn replay<B: Book>(&self, book: &B, held: &mut Held, count: u32) -> Result<(), Refusal>
+        requires within { 33 + count < size (D.disk self.now.journal.now.drive) }
+        ensures value { MatchResult result (λ _. replayed B.meaning held.old.room (home (D.disk self.now.journal.now.drive).blocks) count 1 (standing_of held.old) ≡ Ok (standing_of held.new)) (λ e. replayed B.meaning held.old.room (home (D.disk self.now.journal.now.drive).blocks) count 1 (standing_of held.old) ≡ Err e) }
+    {
+        for number in 1..=count {
+            let block = self.read_home(33 + u64::from(number))?;
+            replay_block(book, held, number, &block)?;
+        }
+        Ok(())
     }
-    let rows = read_blocks(journal, Part::Rows)?;
-    if let Some(block) = first_differing(Part::Rows, &rows, &rows_blocks(&held.rows)) {
-        return Err(Refusal::at(Reason::BlockDiffers, block));
+
+    /// Compares items and rows with what stands, and answers the record count if they are the same.
+    fn compare(&self, held: &Held, count: u32) -> Result<u64, Refusal>
+        ensures value { result ≡ compared count (differing_block (home (D.disk self.now.journal.now.drive).blocks) (standing_of held.now)) }
+    {
+        let items = self.read_blocks(Part::Items)?;
+        if let Some(block) = first_differing(Part::Items, &items, &codes_blocks(&held.items)) {
+            return Err(Refusal::at(Reason::BlockDiffers, block));
+        }
+        let rows = self.read_blocks(Part::Rows)?;
+        if let Some(block) = first_differing(Part::Rows, &rows, &rows_blocks(&held.rows)) {
+            return Err(Refusal::at(Reason::BlockDiffers, block));
+        }
+        Ok(u64::from(count))
     }
-    Ok(u64::from(count))
 }
 
 /// The verdict on the home blocks of a drive that is on and has a lawful size.
@@ -94,9 +85,10 @@ pub(crate) fn judge<D: Drive, B: Book>(journal: &Journal<D>, book: &B) -> Result
     requires lawful { lawful_size (size (D.disk journal.now.drive)) ≡ true }
     ensures value { result ≡ judged B.meaning (room-on (size (D.disk journal.now.drive))) (home (D.disk journal.now.drive).blocks) }
 {
+    let readable = Readable { journal };
     let room = journal.size() - 34;
-    let head = check_head(book, room, &read_home(journal, 7)?)?;
-    let mut held = check_opening(book, &read_blocks(journal, Part::Opening)?)?;
-    replay(journal, book, room, &mut held, head.count)?;
-    compare(journal, &held, head.count)
+    let head = check_head(book, room, &readable.read_home(7)?)?;
+    let mut held = check_opening(book, room, &readable.read_blocks(Part::Opening)?)?;
+    readable.replay(book, &mut held, head.count)?;
+    readable.compare(&held, head.count)
 }

@@ -1,3 +1,2 @@
 pub mod Arrays
-pub mod Chunks
 pub mod Elements

@@ -1,4 +1,4 @@
-use Rattle.std.proofs.Common.{[], ap, ◌∙◌, rules, tests}
+use Rattle.std.proofs.Common.{[], ap, ◌∙◌}
 use Rattle.std.specs.List.{flat_map}
 use Rattle.std.proofs.lemmas.List.Folds.{flat_map-map}
 use Rattle.lists.proofs.Arrays.{mapped_by}
@@ -8,5 +8,5 @@ use Rattle.image.proofs.parts.codes_in.Goals as goal
 -- the codes of each block, one behind the other
 pub returns : goal.returns
 returns c =
-    let each = mapped_by _ _ codes_of c.args.blocks.now c.map.result 8 [] [] (λ x y q called. search (rules, tests)) c.told-blocks c.map.ensures.items in
+    let each = mapped_by _ _ codes_of c.args.blocks.now c.map.result 8 [] [] (λ x y q called. (called.met.1, called.met.0)) c.told-blocks c.map.ensures.items in
     record { value = c.copy_from_slice.ensures.after ∙ c.as_flattened.ensures.value ∙ ap (flat_map (λ x. x)) each ∙ flat_map-map (λ x. x) codes_of c.args.blocks.now }

@@ -1,24 +1,29 @@
+use Rattle.std.proofs.Common.{◌≡◌, Ok, subst, rules, tests}
+use Rattle.std.specs.Prelude.{MatchResult}
 use Rattle.drives.specs.Disk.{size}
-use Rattle.judging.proofs.Starting.{size_lawful, finished_on, inspect_judged, inspect_unfinished}
+use Rattle.journals.specs.Outcomes.{PowersOn, Finishes}
+use Rattle.judging.specs.Inspects.{unfinished_for}
+use Rattle.judging.proofs.Starting.{size_lawful, inspect_judged, inspect_refused}
 use Rattle.judging.proofs.inspecting.inspect.Goals as goal
 
-pub judge-requires : goal.judge-requires
-judge-requires g c =
+-- finishing did not end
+pub returns-in_err-map_err-2 : goal.returns-in_err-map_err-2
+returns-in_err-map_err-2 g c =
     let d = g.D.Drive.disk c.args.journal.now.drive in
+    let p = g.D.Drive.disk c.power.new.self.drive in
+    let e = g.D.Drive.disk c.finish.new.self.drive in
     let fits = size_lawful c.size-size.result (size d) c.size-size.ensures.value c.if-size-lt35.false c.if-size-gt1024.false in
-    let on = finished_on g.B.Book.meaning d (g.D.Drive.disk c.power.new.self.drive) (g.D.Drive.disk c.finish.new.self.drive) fits c.in_default.ensures.powers c.in-Ok.ensures.finishes in
-    record { on = on.0; lawful = on.1 }
+    let on : c.power.result ≡ Ok tt = search (rules, tests) in
+    let says : MatchResult c.finish.result (λ _. ⊥) (λ x. c.from_residual-in_err-map_err-2.result ≡ unfinished_for x) = search (rules, tests) in
+    record { inspects = inspect_refused g.B.Book.meaning d p e fits (subst (λ z. PowersOn d z p) on c.power.ensures.powers) c.finish.result _ c.finish.ensures.finishes says }
 
 -- what stands was judged
-pub returns-in-Ok : goal.returns-in-Ok
-returns-in-Ok g c =
+pub returns : goal.returns
+returns g c =
     let d = g.D.Drive.disk c.args.journal.now.drive in
+    let p = g.D.Drive.disk c.power.new.self.drive in
+    let e = g.D.Drive.disk c.finish.new.self.drive in
     let fits = size_lawful c.size-size.result (size d) c.size-size.ensures.value c.if-size-lt35.false c.if-size-gt1024.false in
-    record { inspects = inspect_judged g.B.Book.meaning d (g.D.Drive.disk c.power.new.self.drive) (g.D.Drive.disk c.finish.new.self.drive) fits c.in_default.ensures.powers c.judge.result c.in-Ok.ensures.finishes c.judge.ensures.value }
-
--- finishing did not end
-pub returns-in-Err-finish : goal.returns-in-Err-finish
-returns-in-Err-finish g c =
-    let d = g.D.Drive.disk c.args.journal.now.drive in
-    let fits = size_lawful c.size-size.result (size d) c.size-size.ensures.value c.if-size-lt35.false c.if-size-gt1024.false in
-    record { inspects = inspect_unfinished g.B.Book.meaning d (g.D.Drive.disk c.power.new.self.drive) (g.D.Drive.disk c.finish.new.self.drive) fits c.in_default.ensures.powers _ c.in-Err-finish.fault c.in-Err-finish.ensures.finishes c.unfinished.ensures.value }
+    let on : c.power.result ≡ Ok tt = search (rules, tests) in
+    let ended : c.finish.result ≡ Ok tt = search (rules, tests) in
+    record { inspects = inspect_judged g.B.Book.meaning d p e fits (subst (λ z. PowersOn d z p) on c.power.ensures.powers) c.judge.result (subst (λ z. Finishes p z e) ended c.finish.ensures.finishes) c.judge.ensures.value }
