@@ -10,7 +10,7 @@ pub fn typed_number(word: &[u8]) -> Option<u64>
     }
     let mut value: u64 = 0;
     for byte in word {
-        if *byte < b'0' || *byte > b'9' {
+        if !byte.is_ascii_digit() {
             return None;
         }
         value = value.checked_mul(10)?.checked_add(u64::from(*byte - b'0'))?;

@@ -7,12 +7,6 @@ use Rattle.lists.proofs.Elements.{all_drop_more}
 use Rattle.lexer.proofs.Values.{value_after, value_drop_more, value_drop_least}
 use Rattle.lexer.proofs.numerals.typed_number.Goals as goal
 
--- a byte that is no digit
-pub returns-then-byte-lt48 : goal.returns-then-byte-lt48
-returns-then-byte-lt48 c =
-    let d = all_drop_more digit c.args.word.now c.loop-byte.byte-index 0 c.loop-byte-test.true in
-    record { value = grind (arith, nat_tests) }
-
 -- ten times the value so far is too much, and the rest makes no less of it
 pub returns-in_err-checked_mul : goal.returns-in_err-checked_mul
 returns-in_err-checked_mul c =
