@@ -10,9 +10,9 @@ use Rattle.lists.specs.Every.{all}
 use Rattle.lexer.specs.Pieces.{newline, blank, pieces, filled, lines, words}
 
 -- the tests of every element are one
-pub all-list_all : {X : Type 0} (p : X → Bool) (xs : List X) → all p xs ≡ list_all p xs
-all-list_all p [] = refl
-all-list_all p (x ∷ xs) = ap (λ b. p x && b) (all-list_all p xs)
+pub all_is_list_all : {X : Type 0} (p : X → Bool) (xs : List X) → all p xs ≡ list_all p xs
+all_is_list_all p [] = refl
+all_is_list_all p (x ∷ xs) = ap (λ b. p x && b) (all_is_list_all p xs)
 
 -- the first piece ends before the first cut, and the rest begins after it
 pieces_cut :

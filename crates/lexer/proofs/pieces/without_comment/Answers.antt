@@ -6,6 +6,7 @@ use Rattle.std.proofs.lemmas.Iterator.Consumers.{count_from_yields_List, YieldsL
 use borrow.Author.Tests.{tests}
 use Rattle.lexer.proofs.pieces.without_comment.Goals as goal
 
+-- what is counted is the bytes before the first '#'
 pub returns : goal.returns
 returns c =
     let line = c.args.line.now in
