@@ -1,31 +1,35 @@
 -- Where a list falls into pieces and words.
-use Rattle.std.proofs.Common.{◌≡◌, ℕ, ◌+◌, ◌<◌, Bool, true, not, ◌&&◌, List, [], ◌∷◌, length, take, drop, Some, None, sym, refl, ap, ◌∙◌, add-one, one-add, arith}
-use Rattle.std.specs.List.{list_all, position, position_or_len}
+use Rattle.std.proofs.Common.{◌≡◌, ℕ, ◌+◌, ◌<◌, Bool, true, not, ◌&&◌, List, [], ◌∷◌, length, take, drop, Some, None, sym, refl, ap, ◌∙◌, one-add, arith}
+use Rattle.std.specs.List.{list_all, slice_split, onto_first, before_first, after_first, position, position_or_len}
 use Rattle.std.proofs.lemmas.List.{length-take-le}
+use Rattle.std.proofs.lemmas.List.Splits.{slice_split_first}
 use Rattle.std.proofs.lemmas.List.Sums.{prefix_len-le-length}
 use Rattle.std.proofs.lemmas.Bool.{cond_both, not-true, not-false}
 use Rattle.std.proofs.lemmas.Bool.Decides.{nat_tests}
 use Rattle.std.proofs.Math.Bool.{not-not}
 use Rattle.lists.specs.Every.{all}
-use Rattle.lexer.specs.Pieces.{newline, blank, pieces, filled, lines, words}
+use Rattle.lexer.specs.Pieces.{newline, blank, onto, pieces, filled, lines, words}
 
 -- the tests of every element are one
 pub all_is_list_all : {X : Type 0} (p : X → Bool) (xs : List X) → all p xs ≡ list_all p xs
 all_is_list_all p [] = refl
 all_is_list_all p (x ∷ xs) = ap (λ b. p x && b) (all_is_list_all p xs)
 
+-- pieces are the parts that std's `split` gives
+onto_is_onto_first : (b : ℕ) (ps : List (List ℕ)) → onto b ps ≡ onto_first b ps
+onto_is_onto_first b [] = refl
+onto_is_onto_first b (p ∷ ps) = refl
+
+pub pieces_are_parts : (cut : ℕ → Bool) (xs : List ℕ) → pieces cut xs ≡ slice_split cut xs
+pieces_are_parts cut [] = refl
+pieces_are_parts cut (b ∷ bs) = rw (pieces_are_parts cut bs, onto_is_onto_first) refl
+
 -- the first piece ends before the first cut, and the rest begins after it
 pieces_cut :
     (cut : ℕ → Bool) (xs : List ℕ)
     → position_or_len cut xs < length xs
-    → pieces cut xs ≡ take (position_or_len cut xs) xs ∷ pieces cut (drop (position_or_len cut xs + 1) xs)
-pieces_cut cut [] h = absurd (omega arith)
-pieces_cut cut (b ∷ bs) h =
-    cond_both (not (cut b)) (1 + position_or_len cut bs) 0
-    (λ n. n < length (b ∷ bs) → pieces cut (b ∷ bs) ≡ take n (b ∷ bs) ∷ pieces cut (drop (n + 1) (b ∷ bs)))
-    (λ e l. let s : position_or_len cut bs < length bs = omega arith in rw (not-true (cut b) e, pieces_cut cut bs s, one-add, add-one, add-one))
-    (λ e _. rw (not-false (cut b) e))
-    h
+    → pieces cut xs ≡ before_first cut xs ∷ pieces cut (after_first cut xs)
+pieces_cut cut xs h = rw (pieces_are_parts, pieces_are_parts) (slice_split_first cut xs 0 h)
 
 -- where nothing is cut, the whole is the only piece
 pieces_whole : (cut : ℕ → Bool) (xs : List ℕ) → position_or_len cut xs ≡ length xs → pieces cut xs ≡ xs ∷ []
