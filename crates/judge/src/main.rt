@@ -20,6 +20,7 @@ Nothing is written back. docs/IMAGE.md has the form of an image.";
 /// The audit of an image that was accepted, a line for each record.
 fn print_audit(rt: &HostRuntime, journal: &Journal<TrialDrive>, count: u64) -> anyhow::Result<()> {
     for number in 1..=u32::try_from(count)? {
+        // Record n stands in block 33 + n.
         let Ok(block) = journal.read(33 + u64::from(number)) else {
             continue;
         };
