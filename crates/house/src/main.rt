@@ -21,14 +21,12 @@ fn read_input(rt: &HostRuntime) -> io::Result<Vec<u8>> {
 }
 
 /// The bytes of a file, or a line that says why they cannot be had.
+// `judge` has its own: the crates that both rest on read no files.
 fn read_file(rt: &HostRuntime, path: &str) -> anyhow::Result<Vec<u8>> {
-    match fs::read(rt, path) {
-        Ok(bytes) => Ok(bytes),
-        Err(error) => {
-            eprintln!(rt; "house: cannot read {path}: {error}")?;
-            Err(error.into())
-        }
-    }
+    fs::read(rt, path).or_else(|error| {
+        eprintln!(rt; "house: cannot read {path}: {error}")?;
+        Err(error.into())
+    })
 }
 
 /// Answers a script, a line for each reply.
@@ -40,16 +38,9 @@ fn answer(rt: &HostRuntime, text: &[u8]) -> anyhow::Result<()> {
 }
 
 fn main(rt: HostRuntime) -> anyhow::Result<()> {
-    let mut args = env::args(&rt)?.skip(1);
-    match args.next() {
+    match env::args(&rt)?.nth(1) {
         None => answer(&rt, read_input(&rt)?.as_slice()),
-        Some(word) => {
-            if word.as_str() == "--help" {
-                rt.println(HELP)?;
-                Ok(())
-            } else {
-                answer(&rt, read_file(&rt, word.as_str())?.as_slice())
-            }
-        }
+        Some(word) if word.as_str() == "--help" => Ok(rt.println(HELP)?),
+        Some(path) => answer(&rt, read_file(&rt, path.as_str())?.as_slice()),
     }
 }

@@ -8,6 +8,7 @@ use journals::Journal;
 use judging::inspect;
 use ledger::Ledger;
 use records::decode;
+use script::BookName;
 use std::{env, fs};
 use stock::Stock;
 use trial::TrialDrive;
@@ -16,24 +17,15 @@ const HELP: &str = "usage: judge ledger FILE... stock FILE...
 Judges each FILE as the image of a drive that keeps the book named before it, and prints the verdict.
 Nothing is written back. docs/IMAGE.md has the form of an image.";
 
-/// The books that an image can be judged as.
-#[derive(Clone, Copy)]
-enum BookName {
-    Ledger,
-    Stock,
-}
-
 /// The audit of an image that was accepted, a line for each record.
 fn print_audit(rt: &HostRuntime, journal: &Journal<TrialDrive>, count: u64) -> anyhow::Result<()> {
-    for done in 0..count {
-        let number = done + 1;
-        let Ok(small) = u32::try_from(number) else {
-            return Ok(());
+    for number in 1..=u32::try_from(count)? {
+        // Record n stands in block 33 + n.
+        let Ok(block) = journal.read(33 + u64::from(number)) else {
+            continue;
         };
-        if let Ok(block) = journal.read(33u64.saturating_add(number)) {
-            if let Some(entry) = decode(&block, small) {
-                println!(rt; "  {number}. {entry}")?;
-            }
+        if let Some(entry) = decode(&block, number) {
+            println!(rt; "  {number}. {entry}")?;
         }
     }
     Ok(())
@@ -59,15 +51,19 @@ fn print_verdict<B: Book>(
     }
 }
 
+/// The bytes of a file, or a line that says why they cannot be had.
+// `house` has its own: the crates that both rest on read no files.
+fn read_file(rt: &HostRuntime, path: &str) -> anyhow::Result<Vec<u8>> {
+    fs::read(rt, path).or_else(|error| {
+        eprintln!(rt; "judge: cannot read {path}: {error}")?;
+        Err(error.into())
+    })
+}
+
 /// Judges one file.
 fn judge_file(rt: &HostRuntime, book: BookName, path: &str) -> anyhow::Result<()> {
-    let mut image = match fs::read(rt, path) {
-        Ok(bytes) => bytes,
-        Err(error) => {
-            eprintln!(rt; "judge: cannot read {path}: {error}")?;
-            return Err(error.into());
-        }
-    };
+    let mut image = read_file(rt, path)?;
+    // Each book is a type of its own, so each arm names one.
     match book {
         BookName::Ledger => print_verdict(rt, &Ledger, path, image.as_mut_slice()),
         BookName::Stock => print_verdict(rt, &Stock, path, image.as_mut_slice()),
@@ -76,22 +72,19 @@ fn judge_file(rt: &HostRuntime, book: BookName, path: &str) -> anyhow::Result<()
 
 fn main(rt: HostRuntime) -> anyhow::Result<()> {
     let mut book = None;
-    let mut judged = 0u64;
+    let mut judged = false;
     for word in env::args(&rt)?.skip(1) {
-        match word.as_str() {
-            "ledger" => book = Some(BookName::Ledger),
-            "stock" => book = Some(BookName::Stock),
-            path => {
-                let Some(chosen) = book else {
-                    rt.println(HELP)?;
-                    return Ok(());
-                };
-                judge_file(&rt, chosen, path)?;
-                judged = judged.saturating_add(1);
-            }
+        if let Some(named) = BookName::named(word.as_str().as_bytes()) {
+            book = Some(named);
+        } else if let Some(chosen) = book {
+            judge_file(&rt, chosen, word.as_str())?;
+            judged = true;
+        } else {
+            // A file with no book before it: nothing was judged yet.
+            break;
         }
     }
-    if judged == 0 {
+    if !judged {
         rt.println(HELP)?;
     }
     Ok(())

@@ -1,2 +1,2 @@
-mod Cuts
+pub mod Cuts
 mod Values

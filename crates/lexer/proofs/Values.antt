@@ -12,7 +12,7 @@ value_grows v [] = omega arith
 value_grows v (d ∷ ds) = omega (arith, value_grows (v * 10 + (d - 48)) ds)
 
 -- the next digit goes behind those before
-pub value_drop_more :
+value_drop_more :
     (v : ℕ) (ds : List ℕ) (i : ℕ)
     → i < length ds
     → value_after v (drop i ds) ≡ value_after (v * 10 + (get_or ds i 0 - 48)) (drop (i + 1) ds)

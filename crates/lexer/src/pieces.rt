@@ -1,5 +1,5 @@
-ghost use Rattle.std.specs.Prelude.{◌≡◌, not, [], ◌∷◌, MatchOption, ◌==◌};
-ghost use Rattle.std.specs.List.{prefix_len};
+ghost use Rattle.std.specs.Prelude.{◌≡◌};
+ghost use Rattle.std.specs.Iterator.{YieldsFirstRef, item_count};
 ghost use Rattle.lexer.specs.Left.{lines_left, words_left};
 ghost use Rattle.lists.specs.Every.{all};
 ghost use Rattle.lexer.specs.Pieces.{blank, printable, lines, words, uncommented};
@@ -16,63 +16,27 @@ pub struct Words<'a> {
     rest: &'a [u8],
 }
 
-/// How many bytes stand before the first `stop`.
-fn count_before(bytes: &[u8], stop: u8) -> usize
-    ensures value { result ≡ prefix_len (λ b. not (b == stop)) bytes.now }
-{
-    let mut n = 0;
-    while n < bytes.len() && bytes[n] != stop {
-        n += 1;
-    }
-    n
-}
-
 /// Whether a byte stands between words.
 fn is_blank(byte: u8) -> bool
     ensures value { result ≡ blank byte }
 {
-    byte == b' ' || byte == b'\t' || byte == b'\r'
-}
-
-/// How many blanks the bytes begin with.
-fn count_blanks(bytes: &[u8]) -> usize
-    ensures value { result ≡ prefix_len blank bytes.now }
-{
-    let mut n = 0;
-    while n < bytes.len() && is_blank(bytes[n]) {
-        n += 1;
-    }
-    n
-}
-
-/// How many bytes stand before the first blank.
-fn count_filled(bytes: &[u8]) -> usize
-    ensures value { result ≡ prefix_len (λ b. not (blank b)) bytes.now }
-{
-    let mut n = 0;
-    while n < bytes.len() && !is_blank(bytes[n]) {
-        n += 1;
-    }
-    n
+    matches!(byte, b' ' | b'\t' | b'\r')
 }
 
 /// Whether a line is text: printable ASCII and blanks.
 pub fn is_text(line: &[u8]) -> bool
     ensures value { result ≡ all printable line.now }
 {
-    for byte in line {
-        if !(b' ' <= *byte && *byte <= b'~') && !is_blank(*byte) {
-            return false;
-        }
-    }
-    true
+    line.iter()
+        .all(|byte| matches!(*byte, b' '..=b'~') || is_blank(*byte))
 }
 
 /// The line up to its first '#'.
 pub fn without_comment(line: &[u8]) -> &[u8]
     ensures value { result.now ≡ uncommented line.now }
 {
-    &line[0..count_before(line, b'#')]
+    let length = line.iter().take_while(|byte| **byte != b'#').count();
+    &line[..length]
 }
 
 impl<'a> Lines<'a> {
@@ -82,19 +46,25 @@ impl<'a> Lines<'a> {
     {
         Lines { rest: Some(text) }
     }
+}
+
+impl<'a> Iterator for Lines<'a> {
+    type Item = &'a [u8];
+
+    ghost next_gives = { YieldsFirstRef lines_left };
+
+    ghost remaining = { item_count lines_left };
 
     /// The next line, or none after the last.
-    pub fn next_line(&mut self) -> Option<&'a [u8]>
-        ensures takes_first { MatchOption result ((lines_left self.old ≡ []) × (lines_left self.new ≡ [])) (λ l. lines_left self.old ≡ l.now ∷ lines_left self.new) }
-    {
+    fn next(&mut self) -> Option<&'a [u8]> {
         let text = self.rest?;
-        let end = count_before(text, b'\n');
-        if end == text.len() {
-            self.rest = None;
-        } else {
-            self.rest = Some(&text[end + 1..]);
+        match text.iter().position(|byte| *byte == b'\n') {
+            Some(end) => {
+                self.rest = Some(&text[end + 1..]);
+                Some(&text[..end])
+            }
+            None => self.rest.take(),
         }
-        Some(&text[0..end])
     }
 }
 
@@ -105,17 +75,21 @@ impl<'a> Words<'a> {
     {
         Words { rest: line }
     }
+}
+
+impl<'a> Iterator for Words<'a> {
+    type Item = &'a [u8];
+
+    ghost next_gives = { YieldsFirstRef words_left };
+
+    ghost remaining = { item_count words_left };
 
     /// The next word, or none after the last.
-    pub fn next_word(&mut self) -> Option<&'a [u8]>
-        ensures takes_first { MatchOption result ((words_left self.old ≡ []) × (words_left self.new ≡ [])) (λ w. words_left self.old ≡ w.now ∷ words_left self.new) }
-    {
-        let line = &self.rest[count_blanks(self.rest)..];
-        let end = count_filled(line);
-        if end == 0 {
-            return None;
-        }
+    fn next(&mut self) -> Option<&'a [u8]> {
+        let start = self.rest.iter().position(|byte| !is_blank(*byte))?;
+        let line = &self.rest[start..];
+        let end = line.iter().take_while(|byte| !is_blank(**byte)).count();
         self.rest = &line[end..];
-        Some(&line[0..end])
+        Some(&line[..end])
     }
 }

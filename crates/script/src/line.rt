@@ -1,12 +1,29 @@
+ghost use Rattle.std.specs.Prelude.{◌≡◌};
+
 /// The books that a script can choose, by their kind numbers.
-#[derive(Clone, Copy)]
+#[derive(Clone, Copy, PartialEq, Eq, Debug)]
 pub enum BookName {
     Ledger = 1,
     Stock = 2,
 }
 
+impl BookName {
+    ghost use Rattle.script.specs.Grammar.{book_named};
+
+    /// The book that a word names, if it names one.
+    pub fn named(word: &[u8]) -> Option<BookName>
+        ensures value { result ≡ book_named word.now }
+    {
+        match word {
+            b"ledger" => Some(BookName::Ledger),
+            b"stock" => Some(BookName::Stock),
+            _ => None,
+        }
+    }
+}
+
 /// A note as it was typed: the book chosen above it, and four numbers of any size.
-#[derive(Clone, Copy)]
+#[derive(Clone, Copy, PartialEq, Eq, Debug)]
 pub struct TypedNote {
     pub book: BookName,
     pub procedure: u64,
@@ -16,7 +33,7 @@ pub struct TypedNote {
 }
 
 /// What one line of a script says.
-#[derive(Clone, Copy)]
+#[derive(Clone, Copy, PartialEq, Eq, Debug)]
 pub enum Line {
     /// A blank line, or only a comment.
     Nothing,
@@ -27,7 +44,7 @@ pub enum Line {
 }
 
 /// A typed note with the number of its line, from 1.
-#[derive(Clone, Copy)]
+#[derive(Clone, Copy, PartialEq, Eq, Debug)]
 pub struct Command {
     pub line: u64,
     pub typed: TypedNote,

@@ -21,11 +21,8 @@ pub fn read_script(heap: Global, text: &[u8]) -> Result<Script, AllocError>
             bad_line: Some(0),
         });
     }
-    let mut lines = Lines::of(text);
     let mut book = None;
-    let mut number: u64 = 0;
-    while let Some(line) = lines.next_line() {
-        number += 1;
+    for (number, line) in (1u64..).zip(Lines::of(text)) {
         match understand(book, line) {
             None => return Ok(Script {
                 commands,

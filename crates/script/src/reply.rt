@@ -19,17 +19,11 @@ impl fmt::Display for Reply {
     fn fmt<W: fmt::Write>(&self, f: &mut fmt::Formatter<W>) -> fmt::Result {
         let line = self.line;
         match self.answer {
-            Ok(note) => {
-                let kind = note.kind;
-                let procedure = note.procedure;
-                let a = note.a;
-                let b = note.b;
-                let n = note.amount;
-                write!(
-                    f,
-                    "line {line}: note made: kind {kind}, procedure {procedure}, a {a}, b {b}, n {n}"
-                )
-            }
+            Ok(note) => write!(
+                f,
+                "line {line}: note made: kind {}, procedure {}, a {}, b {}, n {}",
+                note.kind, note.procedure, note.a, note.b, note.amount
+            ),
             Err(refusal) => write!(f, "line {line}: {refusal}"),
         }
     }

@@ -39,11 +39,10 @@ pub fn answer_command(command: Command) -> Reply
 fn answer_all(heap: Global, commands: &[Command]) -> Result<Vec<Reply>, AllocError>
     ensures answers { IfOk result (λ v. v.items ≡ map reply_to commands.now) }
 {
-    let mut answered = Vec::new(heap);
-    for command in commands {
-        answered.push(answer_command(*command))?;
-    }
-    Ok(answered)
+    commands
+        .iter()
+        .map(|command| answer_command(*command))
+        .collect(heap)
 }
 
 /// Reads a script and answers it: a reply for each note up to the first bad line, and one for that line.
