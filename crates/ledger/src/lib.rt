@@ -1,8 +1,9 @@
 // The ledger, the book of money: signed balances in pence that sum to zero. `docs/BOOKS.md` has its rules.
 #![tactic(auto)]
 
-ghost use Rattle.std.specs.Prelude.{◌≡◌, Some};
-ghost use Rattle.ledger.specs.Ledger.{ledger, ledger_takes, own, depositor, balance, within, code_changed};
+ghost use Rattle.std.specs.Prelude.{◌≡◌, ◌≤◌, Some, map, length};
+ghost use Rattle.ledger.specs.Ledger.{ledger, ledger_takes, own, depositor, balance, within, total, code_changed};
+ghost use Rattle.lists.specs.Every.{all};
 ghost use Rattle.books.specs.Meaning.{StepTests, StepGivesCodes};
 ghost use Rattle.books.specs.Words.{word_of};
 ghost use Rattle.ledger.specs.Keeping.{ledger_keeps};
@@ -105,6 +106,25 @@ fn is_within(pence: i64) -> bool
     (-FURTHEST..=FURTHEST).contains(&pence)
 }
 
+/// Whether every balance lies within its bounds.
+fn are_within(codes: &[u64]) -> bool
+    ensures value { result ≡ all within (map balance codes.now) }
+{
+    codes.iter().all(|code| is_within(code.cast_signed()))
+}
+
+/// The sum of the balances. It is taken at 128 bits, so that it fits whatever they are.
+fn total_of(codes: &[u64]) -> i128
+    requires few { length codes.now ≤ 64 }
+    ensures value { result ≡ total (map balance codes.now) }
+{
+    let mut sum = 0;
+    for code in codes {
+        sum += i128::from(code.cast_signed());
+    }
+    sum
+}
+
 /// The code of a balance after a change, unless it lies outside its bounds before or after.
 fn changed(code: u64, change: i64) -> Option<u64>
     ensures value { result ≡ code_changed code change }
@@ -164,19 +184,7 @@ impl Book for Ledger {
     }
 
     fn verify(&self, codes: &[u64]) -> bool {
-        if codes.len() != 64 {
-            return false;
-        }
-        // A loop, since a sum is known to fit only where each balance before it lay within its bounds.
-        let mut sum: i64 = 0;
-        for code in codes {
-            let pence = code.cast_signed();
-            if !is_within(pence) {
-                return false;
-            }
-            sum += pence;
-        }
-        sum == 0
+        codes.len() == 64 && are_within(codes) && total_of(codes) == 0
     }
 
     fn step(
