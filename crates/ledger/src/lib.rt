@@ -25,14 +25,14 @@ pub struct Balance {
 /// The furthest that a balance may lie from zero, in pence.
 const FURTHEST: i64 = 1_000_000_000_000;
 
-/// What a note moves money for, by the number that it is noted with.
+/// What a note does, by its number. Each procedure adds the amount to item a and takes it from item b.
 #[derive(Clone, Copy, PartialEq, Eq, Debug)]
 enum Procedure {
-    /// A depositor gains what the house pays.
+    /// Item a is a depositor's account, item b the house's own.
     Charge = 1,
-    /// The house gains what a depositor pays.
+    /// Item a is the house's own account, item b a depositor's.
     Receipt = 2,
-    /// Money moves between two accounts of one side.
+    /// Two different accounts of one side.
     Shift = 3,
 }
 

@@ -27,14 +27,14 @@ pub struct Reels {
 /// The most reels that one shelf may be built for.
 const LARGEST: u32 = 10_000;
 
-/// What a note does to a shelf, by the number that it is noted with.
+/// What a note does to a shelf and to the sums in item 0, by its number.
 #[derive(Clone, Copy, PartialEq, Eq, Debug)]
 enum Procedure {
-    /// The shelf takes more reels at most.
+    /// Adds the amount to the most.
     Build = 1,
-    /// Reels are taken in.
+    /// Adds the amount to the held.
     Take = 2,
-    /// Reels are given out.
+    /// Takes the amount from the held.
     Give = 3,
 }
 
