@@ -5,85 +5,78 @@
 
 use changes::Change;
 use drives::Drive;
-use journals::{ChangeFault, Journal};
+use journals::{ChangeFault, Journal, Place};
 use trial::TrialDrive;
 
 /// A drive of sixteen blocks.
 const BYTES: usize = 1024;
 
-/// The four blocks of the change: 7, 8, 9 and 12, each filled with its number.
+/// The blocks of the change, each to be filled with its number.
+const BLOCKS: [u8; 4] = [7, 8, 9, 12];
+
+/// The change of the four blocks.
 fn four_blocks() -> Option<Change> {
-    let mut change = Change::of(7, &[7; 64])?;
-    let added = change.add(8, &[8; 64]) && change.add(9, &[9; 64]) && change.add(12, &[12; 64]);
-    if added { Some(change) } else { None }
+    let (first, others) = BLOCKS.split_first()?;
+    let mut change = Change::of(u64::from(*first), &[*first; 64])?;
+    others
+        .iter()
+        .all(|&block| change.add(u64::from(block), &[block; 64]))
+        .then_some(change)
 }
 
-/// Makes the change with one cut number, and says how it went.
-fn cut_at(bytes: &mut [u8], cut: u16) -> &'static str {
+/// Where a change was cut, or why it was not begun.
+fn fault_text(fault: ChangeFault) -> &'static str {
+    match fault {
+        ChangeFault::Cut(Place::Staging) => "place 1",
+        ChangeFault::Cut(Place::Committing) => "place 2",
+        ChangeFault::Cut(Place::Applying) => "place 3",
+        ChangeFault::Off => "off",
+        ChangeFault::Beyond => "beyond the drive",
+    }
+}
+
+/// Makes the change with one cut number, or says what became of it.
+fn change_cut_at(bytes: &mut [u8], cut: u16) -> Result<(), &'static str> {
     let cuts = [cut];
     let mut journal = Journal::over(TrialDrive::over(bytes, &cuts));
-    if let Err(_) = journal.power() {
-        return "no power";
-    }
-    let Some(change) = four_blocks() else {
-        return "no change";
-    };
-    match journal.change(&change) {
-        Ok(()) => "done",
-        Err(ChangeFault::Cut(place)) => match place as u8 {
-            1 => "place 1",
-            2 => "place 2",
-            _ => "place 3",
-        },
-        Err(ChangeFault::Off) => "off",
-        Err(ChangeFault::Beyond) => "beyond the drive",
-    }
+    journal.power().map_err(|_| "no power")?;
+    let change = four_blocks().ok_or("no change")?;
+    journal.change(&change).map_err(fault_text)
 }
 
-/// Finishes on a fresh drive over the same bytes, and says how much of the change stands.
-fn what_stands(bytes: &mut [u8]) -> &'static str {
+/// Finishes on a fresh drive over the same bytes, and counts the blocks of the change that stand.
+fn count_standing(bytes: &mut [u8]) -> Result<usize, &'static str> {
     let mut journal = Journal::over(TrialDrive::over(bytes, &[]));
-    if let Err(_) = journal.power() {
-        return "no power";
-    }
-    if let Err(_) = journal.finish() {
-        return "cannot be finished";
-    }
-    let mut all = true;
-    let mut none = true;
-    for block in [7u8, 8, 9, 12] {
-        match journal.read(u64::from(block)) {
-            Ok(content) => {
-                if content == [block; 64] {
-                    none = false;
-                } else {
-                    all = false;
-                }
-            }
-            Err(_) => return "cannot be read",
+    journal.power().map_err(|_| "no power")?;
+    journal.finish().map_err(|_| "cannot be finished")?;
+    let mut standing = 0;
+    for block in BLOCKS {
+        let content = journal
+            .read(u64::from(block))
+            .map_err(|_| "cannot be read")?;
+        if content == [block; 64] {
+            standing += 1;
         }
     }
-    match (all, none) {
-        (true, _) => "stands",
-        (_, true) => "does not stand",
-        _ => "STANDS IN PART",
-    }
+    Ok(standing)
 }
 
 /// One line of the drill.
 fn drill(rt: &HostRuntime, cut: u16) -> anyhow::Result<()> {
     let mut bytes = [0; BYTES];
-    let place = cut_at(&mut bytes, cut);
-    let standing = what_stands(&mut bytes);
+    let place = change_cut_at(&mut bytes, cut).err().unwrap_or("done");
+    let standing = match count_standing(&mut bytes) {
+        Ok(4) => "stands",
+        Ok(0) => "does not stand",
+        Ok(_) => "STANDS IN PART",
+        Err(trouble) => trouble,
+    };
     println!(rt; "cut number {cut}: {place}, the change {standing}")?;
     Ok(())
 }
 
 fn main(rt: HostRuntime) -> anyhow::Result<()> {
-    for cut in 0..15 {
-        drill(&rt, cut)?;
-    }
-    for cut in 32_768..32_783 {
+    for cut in (0..15).chain(32_768..32_783) {
         drill(&rt, cut)?;
     }
     Ok(())

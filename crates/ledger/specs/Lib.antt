@@ -1,4 +1,5 @@
 pub mod Ledger
+pub mod Procedures
 pub mod Stepping
 pub mod Keeping
 pub mod Totals

@@ -1,9 +1,8 @@
 -- Sums of signed balances.
-use Rattle.std.specs.Prelude.{◌≡◌, ℕ, zero, suc, ◌^◌, ◌<◌, true, List, [], ◌∷◌, length, ℤ, pos, negsuc, ◌+ℤ◌, ◌≤ℤ◌, fold, ◌==◌, slice_index_or, slice_set}
-use Rattle.std.proofs.Common.{arith, to_z}
-use Rattle.std.specs.Int.{w64}
+use Rattle.std.specs.Prelude.{◌≡◌, ℕ, zero, suc, ◌<◌, true, List, [], ◌∷◌, length, ℤ, pos, negsuc, ◌+ℤ◌, ◌≤ℤ◌, fold, slice_index_or, slice_set}
+use Rattle.std.proofs.Common.{arith}
 use Rattle.std.proofs.lemmas.Int.{ints}
-use Rattle.ledger.specs.Ledger.{total, within, is_zero}
+use Rattle.ledger.specs.Ledger.{total, within}
 
 -- a sum that starts at s is s and the sum
 pub total_from : (s : ℤ) (zs : List ℤ) → fold ◌+ℤ◌ s zs ≡ s +ℤ total zs
@@ -29,7 +28,3 @@ total_set (z ∷ zs) (suc i) v d h =
 -- what it means to lie within the bounds
 pub within_bounds : (z : ℤ) → within z ≡ true → (negsuc 999999999999 ≤ℤ z) × (z ≤ℤ pos 1000000000000)
 within_bounds z h = grind (arith, ints)
-
--- a number of 64 bits is zero exactly if the balance is
-pub zero_bits : (n : ℕ) → n < 2 ^ 64 → (n == 0) ≡ is_zero (to_z w64 n)
-zero_bits n h = grind (arith, ints)

@@ -1,9 +1,11 @@
 // The ledger, the book of money: signed balances in pence that sum to zero. `docs/BOOKS.md` has its rules.
 #![tactic(auto)]
 
-ghost use Rattle.std.specs.Prelude.{◌≡◌, pos, neg_ℤ};
-ghost use Rattle.ledger.specs.Ledger.{ledger, ledger_takes, balance, within, code_changed};
+ghost use Rattle.std.specs.Prelude.{◌≡◌, ◌≤◌, Some, map, length};
+ghost use Rattle.ledger.specs.Ledger.{ledger, ledger_takes, own, depositor, balance, within, total, code_changed};
+ghost use Rattle.lists.specs.Every.{all};
 ghost use Rattle.books.specs.Meaning.{StepTests, StepGivesCodes};
+ghost use Rattle.books.specs.Words.{word_of};
 ghost use Rattle.ledger.specs.Keeping.{ledger_keeps};
 ghost use Rattle.std.proofs.Common.{rules};
 
@@ -23,62 +25,113 @@ pub struct Balance {
 /// The furthest that a balance may lie from zero, in pence.
 const FURTHEST: i64 = 1_000_000_000_000;
 
-/// How many procedures the ledger has: charge, receipt and shift.
-const PROCEDURES: u64 = 3;
+/// What a note does, by its number. Each procedure adds the amount to item a and takes it from item b.
+#[derive(Clone, Copy, PartialEq, Eq, Debug)]
+enum Procedure {
+    /// Item a is a depositor's account, item b the house's own.
+    Charge = 1,
+    /// Item a is the house's own account, item b a depositor's.
+    Receipt = 2,
+    /// Two different accounts of one side.
+    Shift = 3,
+}
+
+/// How many procedures there are.
+const PROCEDURES: u64 = Procedure::Shift as u64;
+
+/// The procedure of a number. The step refuses any other number as it refuses items that a procedure does not take.
+impl TryFrom<u64> for Procedure {
+    ghost use Rattle.ledger.specs.Procedures.{Numbered};
+
+    type Error = StepPlace;
+
+    ghost try_from_gives = { Numbered };
+
+    fn try_from(number: u64) -> Result<Procedure, StepPlace> {
+        match number {
+            1 => Ok(Procedure::Charge),
+            2 => Ok(Procedure::Receipt),
+            3 => Ok(Procedure::Shift),
+            _ => Err(StepPlace::Items),
+        }
+    }
+}
+
+/// Whether an item is an account of the house's own.
+fn is_own(item: u64) -> bool
+    ensures value { result ≡ own item }
+{
+    item < 8
+}
+
+/// Whether an item is a depositor's account.
+fn is_depositor(item: u64) -> bool
+    ensures value { result ≡ depositor item }
+{
+    (8..64).contains(&item)
+}
+
+impl Procedure {
+    ghost use Rattle.ledger.specs.Procedures.{number};
+
+    /// The word that names it.
+    fn word(self) -> &'static str
+        ensures value { Some result.now ≡ word_of ledger.words (number self) }
+    {
+        match self {
+            Procedure::Charge => "charge",
+            Procedure::Receipt => "receipt",
+            Procedure::Shift => "shift",
+        }
+    }
+
+    /// Whether it takes these two items.
+    fn takes(self, a: u64, b: u64) -> bool
+        ensures value { result ≡ ledger_takes (number self) a b }
+    {
+        match self {
+            Procedure::Charge => is_depositor(a) && is_own(b),
+            Procedure::Receipt => is_own(a) && is_depositor(b),
+            Procedure::Shift => {
+                a != b && (is_own(a) && is_own(b) || is_depositor(a) && is_depositor(b))
+            }
+        }
+    }
+}
 
 /// Whether a balance lies within its bounds.
 fn is_within(pence: i64) -> bool
     ensures value { result ≡ within pence }
 {
-    -FURTHEST <= pence && pence <= FURTHEST
+    (-FURTHEST..=FURTHEST).contains(&pence)
 }
 
-/// The code of a balance with an amount added, unless it lies outside its bounds before or after.
-fn raised(code: u64, amount: u32) -> Option<u64>
-    ensures value { result ≡ code_changed code (pos amount) }
+/// Whether every balance lies within its bounds.
+fn are_within(codes: &[u64]) -> bool
+    ensures value { result ≡ all within (map balance codes.now) }
+{
+    codes.iter().all(|code| is_within(code.cast_signed()))
+}
+
+/// The sum of the balances. It is taken at 128 bits, so that it fits whatever they are.
+fn total_of(codes: &[u64]) -> i128
+    requires few { length codes.now ≤ 64 }
+    ensures value { result ≡ total (map balance codes.now) }
+{
+    let mut sum = 0;
+    for code in codes {
+        sum += i128::from(code.cast_signed());
+    }
+    sum
+}
+
+/// The code of a balance after a change, unless it lies outside its bounds before or after.
+fn changed(code: u64, change: i64) -> Option<u64>
+    ensures value { result ≡ code_changed code change }
 {
     let before = code.cast_signed();
-    if !is_within(before) {
-        return None;
-    }
-    let after = before + i64::from(amount);
-    if is_within(after) {
-        Some(after.cast_unsigned())
-    } else {
-        None
-    }
-}
-
-/// The code of a balance with an amount taken off, unless it lies outside its bounds before or after.
-fn lowered(code: u64, amount: u32) -> Option<u64>
-    ensures value { result ≡ code_changed code (neg_ℤ (pos amount)) }
-{
-    let before = code.cast_signed();
-    if !is_within(before) {
-        return None;
-    }
-    let after = before - i64::from(amount);
-    if is_within(after) {
-        Some(after.cast_unsigned())
-    } else {
-        None
-    }
-}
-
-/// Whether the procedure takes these two items.
-fn takes(procedure: u64, a: u64, b: u64) -> bool
-    ensures value { result ≡ ledger_takes procedure a b }
-{
-    let own_a = a < 8;
-    let own_b = b < 8;
-    let depositor_a = 8 <= a && a < 64;
-    let depositor_b = 8 <= b && b < 64;
-    match procedure {
-        1 => depositor_a && own_b,
-        2 => own_a && depositor_b,
-        3 => a != b && (own_a && own_b || depositor_a && depositor_b),
-        _ => false,
-    }
+    let after = before.checked_add(change)?;
+    (is_within(before) && is_within(after)).then_some(after.cast_unsigned())
 }
 
 impl Book for Ledger {
@@ -117,12 +170,7 @@ impl Book for Ledger {
     }
 
     fn word(&self, procedure: u64) -> Option<&str> {
-        match procedure {
-            1 => Some("charge"),
-            2 => Some("receipt"),
-            3 => Some("shift"),
-            _ => None,
-        }
+        Procedure::try_from(procedure).ok().map(Procedure::word)
     }
 
     fn decode(&self, code: u64) -> Balance {
@@ -136,18 +184,7 @@ impl Book for Ledger {
     }
 
     fn verify(&self, codes: &[u64]) -> bool {
-        if codes.len() != 64 {
-            return false;
-        }
-        let mut sum: i64 = 0;
-        for code in codes {
-            let pence = code.cast_signed();
-            if !is_within(pence) {
-                return false;
-            }
-            sum += pence;
-        }
-        sum == 0
+        codes.len() == 64 && are_within(codes) && total_of(codes) == 0
     }
 
     fn step(
@@ -158,18 +195,15 @@ impl Book for Ledger {
         codes: (u64, u64),
         amount: u64,
     ) -> Result<(u64, u64), StepPlace> {
-        if !takes(procedure, a, b) {
+        if !Procedure::try_from(procedure)?.takes(a, b) {
             return Err(StepPlace::Items);
         }
-        if amount < 1 || amount > Self::CEILING {
+        if !(1..=Self::CEILING).contains(&amount) {
             return Err(StepPlace::Amount);
         }
-        let Some(more) = raised(codes.0, amount as u32) else {
-            return Err(StepPlace::Values);
-        };
-        let Some(less) = lowered(codes.1, amount as u32) else {
-            return Err(StepPlace::Values);
-        };
+        let change = amount as i64;
+        let more = changed(codes.0, change).ok_or(StepPlace::Values)?;
+        let less = changed(codes.1, -change).ok_or(StepPlace::Values)?;
         Ok((more, less))
     }
 }

@@ -6,10 +6,9 @@ use Rattle.std.proofs.lemmas.List.Sums.{sum_by-set}
 use Rattle.std.proofs.lemmas.Bool.{and_parts, and_from, eq-eqb, eqb-true, ltb-true, true≢false}
 use Rattle.books.specs.Meaning.{StepKeepsValid, amount_ok}
 use Rattle.lists.specs.Every.{all}
-use Rattle.stock.specs.Stock.{stock, stock_valid, stock_takes, held, most, reels_code, shelf_ok, held_after, most_after, halves_stay, reels_stay, code_after}
+use Rattle.stock.specs.Stock.{stock, stock_valid, stock_takes, held, most, reels_code, shelf_ok, in_order, held_after, most_after, halves_stay, reels_stay, code_after}
 use Rattle.lists.proofs.Elements.{all_set}
 use Rattle.books.proofs.Accepted.{passed}
-use Rattle.stock.specs.Folds.{in_order}
 
 -- the halves of a code are those that it was made of
 held_back : (h m : ℕ) → h < 2 ^ 32 → held (reels_code h m) ≡ h

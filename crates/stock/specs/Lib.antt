@@ -1,5 +1,5 @@
 pub mod Stock
 pub mod Shelf
+pub mod Procedures
 pub mod Stepping
 pub mod Keeping
-pub mod Folds

@@ -21,6 +21,10 @@ reels_code h m = h + m * 2 ^ 32
 abbrev pub shelf_ok : ℕ → ℕ → Bool
 shelf_ok h m = nat_le h m && nat_le m 10000
 
+-- the shelf of a code is so
+abbrev pub in_order : ℕ → Bool
+in_order c = shelf_ok (held c) (most c)
+
 -- 64 codes; each of items 1 to 63 holds no more than its most, which is at most 10,000; item 0 has the two sums
 abbrev pub stock_valid : List ℕ → Bool
 stock_valid cs =

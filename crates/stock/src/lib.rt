@@ -2,10 +2,11 @@
 // rules.
 #![tactic(auto)]
 
-ghost use Rattle.std.specs.Prelude.{◌≡◌};
-ghost use Rattle.stock.specs.Stock.{stock, stock_takes, shelf_ok, held, most, reels_code};
-ghost use Rattle.stock.specs.Shelf.{pair_after};
+ghost use Rattle.std.specs.Prelude.{◌≡◌, ◌≤◌, sum_by, length};
+ghost use Rattle.stock.specs.Stock.{stock, shelf_ok, in_order, held, most, reels_code};
+ghost use Rattle.lists.specs.Every.{all};
 ghost use Rattle.books.specs.Meaning.{StepTests, StepGivesCodes};
+ghost use Rattle.books.specs.Words.{word_of};
 ghost use Rattle.stock.specs.Keeping.{stock_keeps};
 ghost use Rattle.std.proofs.Common.{rules};
 
@@ -26,69 +27,126 @@ pub struct Reels {
 /// The most reels that one shelf may be built for.
 const LARGEST: u32 = 10_000;
 
-/// How many procedures the stock book has: build, take and give.
-const PROCEDURES: u64 = 3;
+/// What a note does to a shelf and to the sums in item 0, by its number.
+#[derive(Clone, Copy, PartialEq, Eq, Debug)]
+enum Procedure {
+    /// Adds the amount to the most.
+    Build = 1,
+    /// Adds the amount to the held.
+    Take = 2,
+    /// Takes the amount from the held.
+    Give = 3,
+}
+
+/// How many procedures there are.
+const PROCEDURES: u64 = Procedure::Give as u64;
+
+/// The procedure of a number. The step refuses any other number as it refuses items that no procedure takes.
+impl TryFrom<u64> for Procedure {
+    ghost use Rattle.stock.specs.Procedures.{Numbered};
+
+    type Error = StepPlace;
+
+    ghost try_from_gives = { Numbered };
+
+    fn try_from(number: u64) -> Result<Procedure, StepPlace> {
+        match number {
+            1 => Ok(Procedure::Build),
+            2 => Ok(Procedure::Take),
+            3 => Ok(Procedure::Give),
+            _ => Err(StepPlace::Items),
+        }
+    }
+}
+
+impl Procedure {
+    ghost use Rattle.stock.specs.Procedures.{number};
+    ghost use Rattle.stock.specs.Shelf.{pair_after};
+
+    /// The word that names it.
+    fn word(self) -> &'static str
+        ensures value { Some result.now ≡ word_of stock.words (number self) }
+    {
+        match self {
+            Procedure::Build => "build",
+            Procedure::Take => "take",
+            Procedure::Give => "give",
+        }
+    }
+
+    /// What it leaves of a pair, unless a half would leave its 32 bits.
+    fn work(self, reels: Reels, amount: u32) -> Option<Reels>
+        ensures value { result ≡ pair_after (number self) reels.held reels.most amount }
+    {
+        Some(match self {
+            Procedure::Build => Reels {
+                most: reels.most.checked_add(amount)?,
+                ..reels
+            },
+            Procedure::Take => Reels {
+                held: reels.held.checked_add(amount)?,
+                ..reels
+            },
+            Procedure::Give => Reels {
+                held: reels.held.checked_sub(amount)?,
+                ..reels
+            },
+        })
+    }
+}
 
 /// The pair that a code stands for.
-fn reels_of(code: u64) -> Reels
-    ensures held { result.held ≡ held code }
-    ensures most { result.most ≡ most code }
-{
-    Reels {
-        held: (code % (1 << 32)) as u32,
-        most: (code / (1 << 32)) as u32,
+impl From<u64> for Reels {
+    ghost from_gives = { λ code reels. reels ≡ record { held = held code; most = most code } };
+
+    fn from(code: u64) -> Reels {
+        Reels {
+            held: (code % (1 << 32)) as u32,
+            most: (code / (1 << 32)) as u32,
+        }
     }
 }
 
 /// The code of a pair.
-fn code_of(reels: Reels) -> u64
-    ensures value { result ≡ reels_code reels.held reels.most }
-{
-    u64::from(reels.held) + u64::from(reels.most) * (1 << 32)
-}
+impl From<Reels> for u64 {
+    ghost from_gives = { λ reels code. code ≡ reels_code reels.held reels.most };
 
-/// Whether a shelf holds no more than its most, and that is no more than any shelf may have.
-fn in_order(reels: Reels) -> bool
-    ensures value { result ≡ shelf_ok reels.held reels.most }
-{
-    reels.held <= reels.most && reels.most <= LARGEST
-}
-
-/// Whether the procedure takes these two items.
-fn takes(procedure: u64, a: u64, b: u64) -> bool
-    ensures value { result ≡ stock_takes procedure a b }
-{
-    1 <= procedure && procedure <= PROCEDURES && 1 <= a && a <= 63 && b == 0
-}
-
-/// What a procedure leaves of a pair, unless a half would leave its 32 bits.
-fn worked(procedure: u64, reels: Reels, amount: u32) -> Option<Reels>
-    ensures value { result ≡ pair_after procedure reels.held reels.most amount }
-{
-    match procedure {
-        1 => {
-            let most = reels.most.checked_add(amount)?;
-            Some(Reels {
-                held: reels.held,
-                most,
-            })
-        }
-        2 => {
-            let held = reels.held.checked_add(amount)?;
-            Some(Reels {
-                held,
-                most: reels.most,
-            })
-        }
-        3 => {
-            let held = reels.held.checked_sub(amount)?;
-            Some(Reels {
-                held,
-                most: reels.most,
-            })
-        }
-        _ => Some(reels),
+    fn from(reels: Reels) -> u64 {
+        u64::from(reels.held) + u64::from(reels.most) * (1 << 32)
     }
+}
+
+impl Reels {
+    /// Whether a shelf holds no more than its most, and that is no more than any shelf may have.
+    fn is_in_order(self) -> bool
+        ensures value { result ≡ shelf_ok self.held self.most }
+    {
+        self.held <= self.most && self.most <= LARGEST
+    }
+}
+
+/// Whether every shelf is in order.
+fn are_in_order(shelves: &[u64]) -> bool
+    ensures value { result ≡ all in_order shelves.now }
+{
+    shelves.iter().all(|code| Reels::from(*code).is_in_order())
+}
+
+/// How many reels the shelves hold together, and how many they take at most.
+fn sums_of(shelves: &[u64]) -> (u64, u64)
+    requires few { length shelves.now ≤ 63 }
+    ensures held { result.0 ≡ sum_by held shelves.now }
+    ensures most { result.1 ≡ sum_by most shelves.now }
+{
+    let held = shelves
+        .iter()
+        .map(|code| u64::from(Reels::from(*code).held))
+        .sum();
+    let most = shelves
+        .iter()
+        .map(|code| u64::from(Reels::from(*code).most))
+        .sum();
+    (held, most)
 }
 
 impl Book for Stock {
@@ -127,38 +185,25 @@ impl Book for Stock {
     }
 
     fn word(&self, procedure: u64) -> Option<&str> {
-        match procedure {
-            1 => Some("build"),
-            2 => Some("take"),
-            3 => Some("give"),
-            _ => None,
-        }
+        Procedure::try_from(procedure).ok().map(Procedure::word)
     }
 
     fn decode(&self, code: u64) -> Reels {
-        reels_of(code)
+        Reels::from(code)
     }
 
     fn encode(&self, entry: Reels) -> u64 {
-        code_of(entry)
+        u64::from(entry)
     }
 
     fn verify(&self, codes: &[u64]) -> bool {
         if codes.len() != 64 {
             return false;
         }
-        let mut held: u64 = 0;
-        let mut most: u64 = 0;
-        for code in &codes[1..] {
-            let reels = reels_of(*code);
-            if !in_order(reels) {
-                return false;
-            }
-            held += u64::from(reels.held);
-            most += u64::from(reels.most);
-        }
-        let sums = reels_of(codes[0]);
-        u64::from(sums.held) == held && u64::from(sums.most) == most
+        let sums = Reels::from(codes[0]);
+        let shelves = &codes[1..];
+        let (held, most) = sums_of(shelves);
+        are_in_order(shelves) && u64::from(sums.held) == held && u64::from(sums.most) == most
     }
 
     fn step(
@@ -169,22 +214,24 @@ impl Book for Stock {
         codes: (u64, u64),
         amount: u64,
     ) -> Result<(u64, u64), StepPlace> {
-        if !takes(procedure, a, b) {
+        let procedure = Procedure::try_from(procedure)?;
+        if !(1..=63).contains(&a) || b != 0 {
             return Err(StepPlace::Items);
         }
-        if amount < 1 || amount > Self::CEILING {
+        if !(1..=Self::CEILING).contains(&amount) {
             return Err(StepPlace::Amount);
         }
-        let Some(shelf) = worked(procedure, reels_of(codes.0), amount as u32) else {
-            return Err(StepPlace::Values);
-        };
-        let Some(sums) = worked(procedure, reels_of(codes.1), amount as u32) else {
-            return Err(StepPlace::Values);
-        };
-        if !in_order(shelf) {
+        let amount = amount as u32;
+        let shelf = procedure
+            .work(Reels::from(codes.0), amount)
+            .ok_or(StepPlace::Values)?;
+        let sums = procedure
+            .work(Reels::from(codes.1), amount)
+            .ok_or(StepPlace::Values)?;
+        if !shelf.is_in_order() {
             return Err(StepPlace::Values);
         }
-        Ok((code_of(shelf), code_of(sums)))
+        Ok((u64::from(shelf), u64::from(sums)))
     }
 }
 

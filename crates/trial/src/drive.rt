@@ -1,11 +1,157 @@
-use crate::fuse::Fuse;
+ghost use Rattle.std.specs.Prelude.{◌≡◌, ◌/◌, Ok, length};
+ghost use Rattle.drives.specs.Disk.{size as type_size};
+ghost use Rattle.drives.specs.Calls.{Reads, Writes, Flushes, Powers};
+ghost use Rattle.trial.specs.Bytes.{disk_of};
+ghost use Rattle.trial.specs.Schedule.{turn, burnt};
+
+use crate::contents::{fetch, store};
+use crate::fuse::{Fuse, Turn};
+use drives::{Drive, DriveFault};
+
+/// How many cut numbers a trial drive takes.
+const MOST_CUTS: usize = 16;
 
 /// A drive over handed bytes. Bytes past the last whole block are never touched.
 #[derive(Drop)]
 pub struct TrialDrive<'a> {
-    pub(crate) bytes: &'a mut [u8],
-    pub(crate) on: bool,
+    bytes: &'a mut [u8],
+    on: bool,
     /// The cut numbers that no power call has taken yet.
-    pub(crate) cuts: &'a [u16],
-    pub(crate) fuse: Fuse,
+    cuts: &'a [u16],
+    fuse: Fuse,
+}
+
+impl<'a> TrialDrive<'a> {
+    ghost use Rattle.trial.specs.State.{state_of, fresh, fault, read_answer};
+
+    /// A drive over the bytes, off, that takes the first 16 of the cut numbers.
+    pub fn over(bytes: &'a mut [u8], cuts: &'a [u16]) -> TrialDrive<'a>
+        ensures state { state_of result ≡ fresh bytes.old cuts.now }
+    {
+        TrialDrive {
+            bytes,
+            on: false,
+            cuts: &cuts[..cuts.len().min(MOST_CUTS)],
+            fuse: Fuse::Never,
+        }
+    }
+
+    /// Makes the tests of read and write, in their order: power, block number, buffer.
+    fn check(&self, block: u64, buffer_length: usize) -> Result<(), DriveFault>
+        ensures value { result ≡ read_answer (fault (state_of self.now) block buffer_length) }
+    {
+        if !self.on {
+            Err(DriveFault::Off)
+        } else if block >= self.size() {
+            Err(DriveFault::NoSuchBlock)
+        } else if buffer_length != 64 {
+            Err(DriveFault::BadBuffer)
+        } else {
+            Ok(())
+        }
+    }
+
+    /// Takes a turn: one of the writes and flushes that are done, or the one that loses power.
+    fn take_turn(&mut self) -> Turn
+        ensures value { result ≡ turn self.old.fuse }
+        ensures burns { self.new.fuse ≡ burnt self.old.fuse }
+        ensures same_bytes { self.new.bytes.now ≡ self.old.bytes.now }
+        ensures same_power { self.new.on ≡ self.old.on }
+        ensures same_cuts { self.new.cuts.now ≡ self.old.cuts.now }
+    {
+        match self.fuse {
+            Fuse::Never => Turn::Done,
+            Fuse::After { left: 0, lands } => Turn::Lost { lands },
+            Fuse::After { left, lands } => {
+                self.fuse = Fuse::After {
+                    left: left - 1,
+                    lands,
+                };
+                Turn::Done
+            }
+        }
+    }
+}
+
+/// The trial drive keeps the meaning of a drive, and each call gives exactly what its definition gives.
+impl<'a> Drive for TrialDrive<'a> {
+    ghost use Rattle.trial.specs.State.{state_of, fault, read_answer, read_buffer, write, flush, power};
+
+    ghost disk = { λ t. disk_of t.on t.bytes.now };
+
+    fn size(&self) -> u64
+        ensures value { result ≡ type_size (disk_of self.now.on self.now.bytes.now) }
+        ensures whole_blocks { result ≡ length (state_of self.now).bytes / 64 }
+    {
+        (self.bytes.len() / 64) as u64
+    }
+
+    fn is_on(&self) -> bool {
+        self.on
+    }
+
+    fn read(&self, block: u64, buffer: &mut [u8]) -> Result<(), DriveFault>
+        ensures reads { Reads (disk_of self.now.on self.now.bytes.now) block buffer.old result buffer.new }
+        ensures answer { result ≡ read_answer (fault (state_of self.now) block (length buffer.old)) }
+        ensures buffer { buffer.new ≡ read_buffer (fault (state_of self.now) block (length buffer.old)) (state_of self.now) block buffer.old }
+    {
+        self.check(block, buffer.len())?;
+        fetch(self.bytes, block as usize, buffer);
+        Ok(())
+    }
+
+    fn write(&mut self, block: u64, content: &[u8]) -> Result<(), DriveFault>
+        ensures writes { Writes (disk_of self.old.on self.old.bytes.now) block content.now result (disk_of self.new.on self.new.bytes.now) }
+        ensures answer { result ≡ (write (state_of self.old) block content.now).answer }
+        ensures state { state_of self.new ≡ (write (state_of self.old) block content.now).state }
+    {
+        self.check(block, content.len())?;
+        match self.take_turn() {
+            Turn::Done => {
+                store(self.bytes, block as usize, content);
+                Ok(())
+            }
+            Turn::Lost { lands } => {
+                if lands {
+                    store(self.bytes, block as usize, content);
+                }
+                self.on = false;
+                Err(DriveFault::PowerLost)
+            }
+        }
+    }
+
+    fn flush(&mut self) -> Result<(), DriveFault>
+        ensures flushes { Flushes (disk_of self.old.on self.old.bytes.now) result (disk_of self.new.on self.new.bytes.now) }
+        ensures answer { result ≡ (flush (state_of self.old)).answer }
+        ensures state { state_of self.new ≡ (flush (state_of self.old)).state }
+    {
+        if !self.on {
+            return Err(DriveFault::Off);
+        }
+        match self.take_turn() {
+            Turn::Done => Ok(()),
+            Turn::Lost { .. } => {
+                self.on = false;
+                Err(DriveFault::PowerLost)
+            }
+        }
+    }
+
+    /// Always done: takes the next cut number, if one is left.
+    fn power(&mut self) -> Result<(), DriveFault>
+        ensures powers { Powers (disk_of self.old.on self.old.bytes.now) result (disk_of self.new.on self.new.bytes.now) }
+        ensures answer { result ≡ Ok tt }
+        ensures state { state_of self.new ≡ power (state_of self.old) }
+    {
+        self.on = true;
+        self.fuse = match self.cuts.split_first() {
+            Some((cut, later)) => {
+                self.cuts = later;
+                Fuse::from(*cut)
+            }
+            None => Fuse::Never,
+        };
+        Ok(())
+    }
 }

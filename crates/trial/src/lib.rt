@@ -2,10 +2,9 @@
 // is a definition, in specs/State.antt; that it keeps the meaning of a drive follows from that.
 #![tactic(auto)]
 
-mod calls;
+mod contents;
 mod drive;
 mod fuse;
-mod meaning;
 
 pub use drive::TrialDrive;
 pub use fuse::Fuse;
