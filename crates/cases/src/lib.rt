@@ -14,12 +14,22 @@ pub fn examples_stand() -> u64
 
 #[cfg(test)]
 mod tests {
-    use books::{Book, procedure_named};
+    use books::{Book, Draft, procedure_named};
     use ledger::{Balance, Ledger};
     use refusals::StepPlace;
     use script::run_script;
     use std::test::*;
     use stock::{Reels, Stock};
+
+    // What a note is typed as.
+    fn draft(procedure: u64, a: u64, b: u64, amount: u64) -> Draft {
+        Draft {
+            procedure,
+            a,
+            b,
+            amount,
+        }
+    }
 
     // The replies to a script, a line each.
     fn replies(rt: &HostRuntime, script: &[u8]) -> Result<String, Fail> {
@@ -42,7 +52,7 @@ mod tests {
     fn a_ledger_posting(rt: HostRuntime) -> Result<(), Fail> {
         let mut codes = [0u64; 64];
         assert!(rt; Ledger.verify(&codes));
-        let (a, b) = Ledger.step(1, 8, 0, (codes[8], codes[0]), 4500)?;
+        let (a, b) = Ledger.step(draft(1, 8, 0, 4500), (codes[8], codes[0]))?;
         assert_eq!(rt; Ledger.decode(b), Balance { pence: -4500 });
         codes[8] = a;
         assert!(rt; !Ledger.verify(&codes), "half a posting does not balance");
@@ -55,23 +65,26 @@ mod tests {
     #[test]
     fn where_the_ledger_refuses(rt: HostRuntime) -> Result<(), Fail> {
         assert_eq!(rt;
-            Ledger.step(1, 0, 8, (0, 0), 1),
+            Ledger.step(draft(1, 0, 8, 1), (0, 0)),
             Err(StepPlace::Items),
             "a charge the wrong way round"
         );
         assert_eq!(rt;
-            Ledger.step(3, 8, 8, (0, 0), 1),
+            Ledger.step(draft(3, 8, 8, 1), (0, 0)),
             Err(StepPlace::Items),
             "a shift to the same item"
         );
         assert_eq!(rt;
-            Ledger.step(4, 8, 0, (0, 0), 1),
+            Ledger.step(draft(4, 8, 0, 1), (0, 0)),
             Err(StepPlace::Items),
             "no such procedure"
         );
-        assert_eq!(rt; Ledger.step(1, 8, 0, (0, 0), 0), Err(StepPlace::Amount));
         assert_eq!(rt;
-            Ledger.step(1, 8, 0, (1 << 63, 0), 1),
+            Ledger.step(draft(1, 8, 0, 0), (0, 0)),
+            Err(StepPlace::Amount)
+        );
+        assert_eq!(rt;
+            Ledger.step(draft(1, 8, 0, 1), (1 << 63, 0)),
             Err(StepPlace::Values),
             "a garbage code"
         );
@@ -86,7 +99,7 @@ mod tests {
         codes[0] = shelf;
         codes[1] = shelf;
         assert!(rt; Stock.verify(&codes));
-        let (a, b) = Stock.step(2, 1, 0, (codes[1], codes[0]), 6)?;
+        let (a, b) = Stock.step(draft(2, 1, 0, 6), (codes[1], codes[0]))?;
         assert_eq!(rt; Stock.decode(a), Reels { held: 10, most: 10 });
         codes[1] = a;
         assert!(rt; !Stock.verify(&codes), "the sums have not moved");
@@ -99,29 +112,29 @@ mod tests {
     fn where_the_stock_book_refuses(rt: HostRuntime) -> Result<(), Fail> {
         let shelf = Stock.encode(Reels { held: 4, most: 10 });
         assert_eq!(rt;
-            Stock.step(2, 0, 0, (shelf, shelf), 1),
+            Stock.step(draft(2, 0, 0, 1), (shelf, shelf)),
             Err(StepPlace::Items)
         );
         assert_eq!(rt;
-            Stock.step(2, 1, 2, (shelf, shelf), 1),
+            Stock.step(draft(2, 1, 2, 1), (shelf, shelf)),
             Err(StepPlace::Items)
         );
         assert_eq!(rt;
-            Stock.step(2, 1, 0, (shelf, shelf), 10001),
+            Stock.step(draft(2, 1, 0, 10001), (shelf, shelf)),
             Err(StepPlace::Amount)
         );
         assert_eq!(rt;
-            Stock.step(2, 1, 0, (shelf, shelf), 7),
+            Stock.step(draft(2, 1, 0, 7), (shelf, shelf)),
             Err(StepPlace::Values),
             "more than the shelf takes"
         );
         assert_eq!(rt;
-            Stock.step(3, 1, 0, (shelf, shelf), 5),
+            Stock.step(draft(3, 1, 0, 5), (shelf, shelf)),
             Err(StepPlace::Values),
             "more than it holds"
         );
         assert_eq!(rt;
-            Stock.step(3, 1, 0, (shelf, 0), 4),
+            Stock.step(draft(3, 1, 0, 4), (shelf, 0)),
             Err(StepPlace::Values),
             "more than the sums hold"
         );

@@ -9,11 +9,11 @@ ghost use Rattle.books.specs.Words.{word_of};
 ghost use Rattle.ledger.specs.Keeping.{ledger_keeps};
 ghost use Rattle.std.proofs.Common.{rules};
 
-use books::Book;
+use books::{Book, Draft};
 use refusals::StepPlace;
 
 /// The book of money.
-#[derive(Clone, Copy)]
+#[derive(Clone, Copy, PartialEq, Eq, Debug)]
 pub struct Ledger;
 
 /// A balance in pence.
@@ -141,9 +141,17 @@ impl Book for Ledger {
 
     type Item = Balance;
 
+    ghost KIND = { 1 };
+
+    ghost CEILING = { 1000000000 };
+
     ghost meaning = { ledger };
 
     ghost item = { λ c. record { pence = balance c } };
+
+    ghost kind_is = { Prim.search rules };
+
+    ghost ceiling_is = { Prim.search rules };
 
     ghost kind_in_range = { Prim.search rules };
 
@@ -156,14 +164,6 @@ impl Book for Ledger {
     ghost step_keeps_valid = { ledger_keeps };
 
     ghost one_code_each = { Prim.search rules };
-
-    fn kind_number(&self) -> u8 {
-        Self::KIND
-    }
-
-    fn largest_amount(&self) -> u64 {
-        Self::CEILING
-    }
 
     fn procedures(&self) -> u64 {
         PROCEDURES
@@ -187,21 +187,14 @@ impl Book for Ledger {
         codes.len() == 64 && are_within(codes) && total_of(codes) == 0
     }
 
-    fn step(
-        &self,
-        procedure: u64,
-        a: u64,
-        b: u64,
-        codes: (u64, u64),
-        amount: u64,
-    ) -> Result<(u64, u64), StepPlace> {
-        if !Procedure::try_from(procedure)?.takes(a, b) {
+    fn step(&self, draft: Draft, codes: (u64, u64)) -> Result<(u64, u64), StepPlace> {
+        if !Procedure::try_from(draft.procedure)?.takes(draft.a, draft.b) {
             return Err(StepPlace::Items);
         }
-        if !(1..=Self::CEILING).contains(&amount) {
+        if !(1..=Self::CEILING).contains(&draft.amount) {
             return Err(StepPlace::Amount);
         }
-        let change = amount as i64;
+        let change = draft.amount as i64;
         let more = changed(codes.0, change).ok_or(StepPlace::Values)?;
         let less = changed(codes.1, -change).ok_or(StepPlace::Values)?;
         Ok((more, less))

@@ -62,7 +62,7 @@ note_of book ws =
     then (first number_typed p.1) (λ a.
     then (first number_typed a.1) (λ b.
     then (first number_typed b.1) (λ n.
-    alone (Types (record { book = book; procedure = p.0; a = a.0; b = b.0; amount = n.0 })) n.1))))
+    alone (Types (record { book = book; draft = record { procedure = p.0; a = a.0; b = b.0; amount = n.0 } })) n.1))))
 
 -- a note needs a book that was chosen before it
 abbrev pub note_line : Option BookName → List (List ℕ) → Option Line

@@ -13,7 +13,7 @@ use Rattle.script.specs.Reading.{Reading}
 
 -- the answer to a typed note
 abbrev pub answer_to : TypedNote → Result Numbers Refusal
-answer_to t = noted (meaning_of t.book) t.procedure t.a t.b t.amount
+answer_to t = noted (meaning_of t.book) t.draft.procedure t.draft.a t.draft.b t.draft.amount
 
 abbrev pub reply_to : Command → Reply
 reply_to c = record { line = c.line; answer = answer_to c.typed }

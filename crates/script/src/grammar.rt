@@ -3,7 +3,7 @@ ghost use Rattle.lexer.specs.Left.{words_left};
 ghost use Rattle.script.specs.Grammar.{typed_procedure, choice, note_of, said, understood};
 
 use crate::line::{BookName, Line, TypedNote};
-use books::procedure_named;
+use books::{Draft, procedure_named};
 use ledger::Ledger;
 use lexer::{Words, is_text, typed_number, without_comment};
 use stock::Stock;
@@ -36,13 +36,16 @@ fn note_from(book: BookName, mut words: Words) -> Option<Line>
     let a = typed_number(words.next()?)?;
     let b = typed_number(words.next()?)?;
     let amount = typed_number(words.next()?)?;
-    words.next().is_none().then_some(Line::Types(TypedNote {
-        book,
+    let draft = Draft {
         procedure,
         a,
         b,
         amount,
-    }))
+    };
+    words
+        .next()
+        .is_none()
+        .then_some(Line::Types(TypedNote { book, draft }))
 }
 
 /// What a line says by its words, under the book that is chosen above it.

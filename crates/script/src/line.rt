@@ -1,5 +1,7 @@
 ghost use Rattle.std.specs.Prelude.{◌≡◌};
 
+use books::Draft;
+
 /// The books that a script can choose, by their kind numbers.
 #[derive(Clone, Copy, PartialEq, Eq, Debug)]
 pub enum BookName {
@@ -22,14 +24,11 @@ impl BookName {
     }
 }
 
-/// A note as it was typed: the book chosen above it, and four numbers of any size.
+/// A note as it was typed: the book chosen above it, and its numbers.
 #[derive(Clone, Copy, PartialEq, Eq, Debug)]
 pub struct TypedNote {
     pub book: BookName,
-    pub procedure: u64,
-    pub a: u64,
-    pub b: u64,
-    pub amount: u64,
+    pub draft: Draft,
 }
 
 /// What one line of a script says.

@@ -6,7 +6,7 @@ use refusals::Refusal;
 use std::fmt;
 
 /// The answer to one line: the numbers of the note that was made, or the refusal.
-#[derive(Clone, Copy)]
+#[derive(Clone, Copy, PartialEq, Eq, Debug)]
 pub struct Reply {
     pub line: u64,
     pub answer: Result<Numbers, Refusal>,

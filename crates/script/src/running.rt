@@ -3,31 +3,32 @@ ghost use Rattle.notes.specs.Notes.{noted};
 ghost use Rattle.script.specs.Reading.{script_reading};
 ghost use Rattle.script.specs.Replies.{reply_to, replies};
 
-use crate::line::{BookName, Command, TypedNote};
+use crate::line::{BookName, Command};
 use crate::reading::read_script;
 use crate::reply::Reply;
-use books::Book;
+use books::{Book, Draft};
 use ledger::Ledger;
 use notes::{Numbers, make_note};
 use refusals::{Reason, Refusal};
 use std::alloc::{AllocError, Global};
 use stock::Stock;
 
-/// Makes the typed note in a book.
-fn note_in<B: Book>(book: &B, typed: TypedNote) -> Result<Numbers, Refusal>
-    ensures value { result ≡ noted B.meaning typed.procedure typed.a typed.b typed.amount }
+/// The numbers of the note of a draft in a book.
+fn note_in<B: Book>(book: &B, draft: Draft) -> Result<Numbers, Refusal>
+    ensures value { result ≡ noted B.meaning draft.procedure draft.a draft.b draft.amount }
 {
-    let note = make_note(book, typed.procedure, typed.a, typed.b, typed.amount)?;
-    Ok(note.numbers())
+    Ok(make_note(book, draft)?.numbers())
 }
 
 /// Makes the note that a command types, or refuses it.
 pub fn answer_command(command: Command) -> Reply
     ensures value { result ≡ reply_to command }
 {
+    let draft = command.typed.draft;
+    // Each book is a type of its own, so each arm names one.
     let answer = match command.typed.book {
-        BookName::Ledger => note_in(&Ledger, command.typed),
-        BookName::Stock => note_in(&Stock, command.typed),
+        BookName::Ledger => note_in(&Ledger, draft),
+        BookName::Stock => note_in(&Stock, draft),
     };
     Reply {
         line: command.line,

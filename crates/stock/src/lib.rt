@@ -10,11 +10,11 @@ ghost use Rattle.books.specs.Words.{word_of};
 ghost use Rattle.stock.specs.Keeping.{stock_keeps};
 ghost use Rattle.std.proofs.Common.{rules};
 
-use books::Book;
+use books::{Book, Draft};
 use refusals::StepPlace;
 
 /// The book of reels in hand.
-#[derive(Clone, Copy)]
+#[derive(Clone, Copy, PartialEq, Eq, Debug)]
 pub struct Stock;
 
 /// The reels held and the most that may be held.
@@ -156,9 +156,17 @@ impl Book for Stock {
 
     type Item = Reels;
 
+    ghost KIND = { 2 };
+
+    ghost CEILING = { 10000 };
+
     ghost meaning = { stock };
 
     ghost item = { λ c. record { held = held c; most = most c } };
+
+    ghost kind_is = { Prim.search rules };
+
+    ghost ceiling_is = { Prim.search rules };
 
     ghost kind_in_range = { Prim.search rules };
 
@@ -171,14 +179,6 @@ impl Book for Stock {
     ghost step_keeps_valid = { stock_keeps };
 
     ghost one_code_each = { Prim.search rules };
-
-    fn kind_number(&self) -> u8 {
-        Self::KIND
-    }
-
-    fn largest_amount(&self) -> u64 {
-        Self::CEILING
-    }
 
     fn procedures(&self) -> u64 {
         PROCEDURES
@@ -206,22 +206,15 @@ impl Book for Stock {
         are_in_order(shelves) && u64::from(sums.held) == held && u64::from(sums.most) == most
     }
 
-    fn step(
-        &self,
-        procedure: u64,
-        a: u64,
-        b: u64,
-        codes: (u64, u64),
-        amount: u64,
-    ) -> Result<(u64, u64), StepPlace> {
-        let procedure = Procedure::try_from(procedure)?;
-        if !(1..=63).contains(&a) || b != 0 {
+    fn step(&self, draft: Draft, codes: (u64, u64)) -> Result<(u64, u64), StepPlace> {
+        let procedure = Procedure::try_from(draft.procedure)?;
+        if !(1..=63).contains(&draft.a) || draft.b != 0 {
             return Err(StepPlace::Items);
         }
-        if !(1..=Self::CEILING).contains(&amount) {
+        if !(1..=Self::CEILING).contains(&draft.amount) {
             return Err(StepPlace::Amount);
         }
-        let amount = amount as u32;
+        let amount = draft.amount as u32;
         let shelf = procedure
             .work(Reels::from(codes.0), amount)
             .ok_or(StepPlace::Values)?;

@@ -8,20 +8,20 @@ taken p q a b e t = sym (t ∙ ap (λ z. ledger_takes z a b) e)
 
 pub returns-then-not-contains : goal.returns-then-not-contains
 returns-then-not-contains c =
-    let t = taken c.args.procedure _ c.args.a c.args.b c.in_ok-try_from.ensures.0 c.if-not-takes.ensures.value in
+    let t = taken c.args.draft.procedure _ c.args.draft.a c.args.draft.b c.in_ok-try_from.ensures.0 c.if-not-takes.ensures.value in
     search rules
 
 pub returns-in_err-more : goal.returns-in_err-more
 returns-in_err-more c =
-    let t = taken c.args.procedure _ c.args.a c.args.b c.in_ok-try_from.ensures.0 c.if-not-takes.ensures.value in
+    let t = taken c.args.draft.procedure _ c.args.draft.a c.args.draft.b c.in_ok-try_from.ensures.0 c.if-not-takes.ensures.value in
     search rules
 
 pub returns-in_err-less : goal.returns-in_err-less
 returns-in_err-less c =
-    let t = taken c.args.procedure _ c.args.a c.args.b c.in_ok-try_from.ensures.0 c.if-not-takes.ensures.value in
+    let t = taken c.args.draft.procedure _ c.args.draft.a c.args.draft.b c.in_ok-try_from.ensures.0 c.if-not-takes.ensures.value in
     search rules
 
 pub returns : goal.returns
 returns c =
-    let t = taken c.args.procedure _ c.args.a c.args.b c.in_ok-try_from.ensures.0 c.if-not-takes.ensures.value in
+    let t = taken c.args.draft.procedure _ c.args.draft.a c.args.draft.b c.in_ok-try_from.ensures.0 c.if-not-takes.ensures.value in
     search rules
