@@ -18,18 +18,18 @@ use refusals::{Reason, Refusal};
 use rights::Row;
 
 /// Whether a head is this book's and has a count for which there is room.
-fn is_own<B: Book>(_book: &B, room: u64, head: Head) -> bool
+fn is_own<B: Book>(room: u64, head: Head) -> bool
     ensures value { result ≡ (head.kind == B.meaning.kind && nat_le head.count room) }
 {
     head.kind == B::KIND && u64::from(head.count) <= room
 }
 
 /// The head, if it is this book's and has a count for which there is room.
-pub(crate) fn check_head<B: Book>(book: &B, room: u64, block: &[u8; 64]) -> Result<Head, Refusal>
+pub(crate) fn check_head<B: Book>(room: u64, block: &[u8; 64]) -> Result<Head, Refusal>
     ensures value { result ≡ checked_head B.meaning room (head_of block.now) }
 {
     read_head(block)
-        .filter(|head| is_own(book, room, *head))
+        .filter(|head| is_own::<B>(room, *head))
         .ok_or(Refusal::at(Reason::BadHead, 7))
 }
 

@@ -87,7 +87,7 @@ pub(crate) fn judge<D: Drive, B: Book>(journal: &Journal<D>, book: &B) -> Result
 {
     let readable = Readable { journal };
     let room = journal.size() - 34;
-    let head = check_head(book, room, &readable.read_home(7)?)?;
+    let head = check_head::<B>(room, &readable.read_home(7)?)?;
     let mut held = check_opening(book, room, &readable.read_blocks(Part::Opening)?)?;
     readable.replay(book, &mut held, head.count)?;
     readable.compare(&held, head.count)

@@ -22,7 +22,7 @@ impl Refusal {
 }
 
 /// The rule that a refusal guards, if it guards one, as it is printed.
-#[derive(Clone, Copy)]
+#[derive(Clone, Copy, PartialEq, Eq, Debug)]
 struct Guarded(Option<Rule>);
 
 impl fmt::Display for Guarded {
