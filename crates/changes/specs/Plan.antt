@@ -2,7 +2,7 @@
 use Rattle.std.specs.Prelude.{◌≡◌, ℕ, ◌+◌, ◌-◌, ◌<◌, Bool, ◌&&◌, List, [], length, replicate, nat_le, nat_lt, slice_index, slice_index_or, slice_set}
 use Rattle.changes.specs.declared.change.Home.{Home}
 use Rattle.changes.specs.declared.change.Change.{Change}
-use Rattle.changes.specs.Homes.{numbers_in, contents_in, padded}
+use Rattle.changes.specs.Homes.{numbers_in, contents_in, number_at, content_at, padded}
 
 -- the first count of the six numbers and contents are the change
 pub record Plan : Type 0 where
@@ -49,5 +49,5 @@ with_more p b x = record {
 -- the homes are those of the plan, each with its number and content
 pub record Lists (p : Plan) (homes : List Home) : Type 0 where
   pub count : length homes ≡ p.count
-  pub numbers : (i : ℕ) → i < p.count → slice_index (numbers_in homes) i ≡ number p i
-  pub contents : (i : ℕ) → i < p.count → slice_index_or (contents_in homes) i [] ≡ content p i
+  pub numbers : (i : ℕ) → i < p.count → number_at homes i ≡ number p i
+  pub contents : (i : ℕ) → i < p.count → content_at homes i ≡ content p i

@@ -1,5 +1,5 @@
-ghost use Rattle.std.specs.Prelude.{◌≡◌, ℕ, ◌<◌, ◌≤◌, length, slice_index};
-ghost use Rattle.changes.specs.Homes.{numbers_in};
+ghost use Rattle.std.specs.Prelude.{◌≡◌, ℕ, ◌<◌, ◌≤◌, length};
+ghost use Rattle.changes.specs.Homes.{number_at};
 
 use arrayvec::ArrayVec;
 
@@ -16,7 +16,7 @@ pub struct Change {
     pub(crate) homes: ArrayVec<Home, 6>,
     ghost some: { 1 ≤ length homes.items },
     ghost few: { length homes.items ≤ 6 },
-    ghost rise: { (i j : ℕ) → i < j → j < length homes.items → slice_index (numbers_in homes.items) i < slice_index (numbers_in homes.items) j },
-    ghost low: { (i : ℕ) → i < length homes.items → 7 ≤ slice_index (numbers_in homes.items) i },
-    ghost two_bytes: { (i : ℕ) → slice_index (numbers_in homes.items) i < 65536 },
+    ghost rise: { (i j : ℕ) → i < j → j < length homes.items → number_at homes.items i < number_at homes.items j },
+    ghost low: { (i : ℕ) → i < length homes.items → 7 ≤ number_at homes.items i },
+    ghost two_bytes: { (i : ℕ) → number_at homes.items i < 65536 },
 }
