@@ -1,9 +1,9 @@
 -- Homes as lists of their numbers and contents, and those lists filled up to six.
 use Rattle.std.proofs.Common.{◌≡◌, ℕ, zero, suc, ◌+◌, ◌-◌, ◌<◌, ◌≤◌, List, [], ◌∷◌, ◌++◌, length, get_or, set, replicate, refl, ap, ◌∙◌, sym, arith}
-use Rattle.std.proofs.lemmas.List.{length-append, length-map, length-replicate, map-append, append_assoc}
+use Rattle.std.proofs.lemmas.List.{get_or-map, length-append, length-map, length-replicate, map-append, append_assoc}
 use Rattle.std.proofs.Math.Seq.{set-append_seam}
 use Rattle.changes.specs.declared.change.Home.{Home}
-use Rattle.changes.specs.Homes.{numbers_in, contents_in, padded}
+use Rattle.changes.specs.Homes.{numbers_in, contents_in, number_at, content_at, padded}
 use Rattle.changes.specs.Plan.{Plan, with_more}
 
 module _ {A : Type 0} (blank : A) where
@@ -41,6 +41,14 @@ module _ {A : Type 0} (blank : A) where
       ap (λ l. set l (length xs) x) (padded_room xs h)
       ∙ set-append_seam xs blank (replicate (5 - length xs) blank) x
       ∙ sym (padded_more xs x h)
+
+-- the home at a place
+module _ (hs : List Home) (i : ℕ) (h : Home) (l : i < length hs) where
+  pub number_here : (get_or hs i h).number ≡ number_at hs i
+  number_here = sym (get_or-map (λ z. z.number) hs i h 0 l)
+
+  pub content_here : (get_or hs i h).content ≡ content_at hs i
+  content_here = sym (get_or-map (λ z. z.content) hs i h [] l)
 
 -- the plan of homes
 abbrev pub plan_with : List Home → Plan
