@@ -14,8 +14,10 @@ const BYTES: usize = 1024;
 /// The four blocks of the change: 7, 8, 9 and 12, each filled with its number.
 fn four_blocks() -> Option<Change> {
     let mut change = Change::of(7, &[7; 64])?;
-    let added = change.add(8, &[8; 64]) && change.add(9, &[9; 64]) && change.add(12, &[12; 64]);
-    if added { Some(change) } else { None }
+    change.add(8, &[8; 64]).ok()?;
+    change.add(9, &[9; 64]).ok()?;
+    change.add(12, &[12; 64]).ok()?;
+    Some(change)
 }
 
 /// Makes the change with one cut number, and says how it went.
