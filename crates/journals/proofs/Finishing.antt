@@ -1,6 +1,6 @@
 -- Finishing: from its steps to what stands.
 use Rattle.std.proofs.Common.{◌≡◌, ℕ, ◌+◌, ◌<◌, ◌≤◌, true, Ok, Err, Result, MatchResult, List, [], length, get_or, set, sym, refl, ap, ◌∙◌, subst, inl, inr, arith}
-use Rattle.std.proofs.lemmas.List.{length-set, get_or-set_same, get_or-set_other, drop-set-lt, nil_from_length}
+use Rattle.std.proofs.lemmas.List.{length-set, get_or-set_same, get_or-set_other, drop-set-lt}
 use Rattle.std.proofs.lemmas.Bool.{both_ways, cases_lt}
 use Rattle.drives.specs.declared.DriveFault.{DriveFault}
 use Rattle.drives.specs.Disk.{Disk, present, size, Settled}
@@ -15,14 +15,8 @@ use Rattle.journals.specs.declared.journal.FinishFault.{FinishFault}
 use Rattle.journals.specs.declared.journal.FinishFault.TheVariants.{PowerLost}
 use Rattle.journals.proofs.Same.{redoes_same, cut_redoing_same}
 use Rattle.journals.proofs.Overlay.{finished_zero, finished_length, finished_low}
-use Rattle.journals.proofs.Crash.{clear_same, clear_lawful, lawful_clear, redo_blocks, redo_cut, redoing_off}
+use Rattle.journals.proofs.Crash.{clear_same, lawful_clear, redo_blocks, redo_cut, redoing_off}
 use Rattle.journals.proofs.Whole.{ready_alone_at}
-
--- a drive without blocks has nothing to finish
-pub empty_lawful : (d : Disk) → size d ≤ 0 → Lawful (size d) (present d 0)
-empty_lawful d h =
-    let e : present d 0 ≡ [] = ap (λ (p : List (List ℕ)). get_or p 0 []) (nil_from_length d.blocks (omega arith)) in
-    clear_lawful (size d) (present d 0) (λ j. ap (λ z. get_or z j 0) e)
 
 module _ (d e : Disk) (wide : 7 ≤ size d) (lawful : Lawful (size d) (present d 0)) where
   -- a commit block that names nothing
