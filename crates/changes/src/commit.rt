@@ -37,6 +37,7 @@ fn is_rising(commit: &[u8; 64], count: usize, size: u64) -> bool
     requires few { count ≤ 6 }
     ensures decides { Decides result (Rises size count (number_of commit.now)) }
 {
+    // A loop, since each number is held against the one before it, and the first against 6.
     let mut last = 6;
     for place in 0..count {
         let number = u64::from(named_block(commit, place));
