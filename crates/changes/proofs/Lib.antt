@@ -1,2 +1,3 @@
+pub mod Homes
 pub mod Encoding
 pub mod Testing

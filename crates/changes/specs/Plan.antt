@@ -1,6 +1,8 @@
 -- A change by its numbers: how many blocks, which, and what they are to hold.
-use Rattle.std.specs.Prelude.{ℕ, ◌+◌, ◌-◌, Bool, ◌&&◌, List, [], replicate, nat_le, nat_lt, slice_index, slice_index_or, slice_set}
+use Rattle.std.specs.Prelude.{◌≡◌, ℕ, ◌+◌, ◌-◌, ◌<◌, Bool, ◌&&◌, List, [], length, replicate, nat_le, nat_lt, slice_index, slice_index_or, slice_set}
+use Rattle.changes.specs.declared.change.Home.{Home}
 use Rattle.changes.specs.declared.change.Change.{Change}
+use Rattle.changes.specs.Homes.{numbers_in, contents_in, number_at, content_at, padded}
 
 -- the first count of the six numbers and contents are the change
 pub record Plan : Type 0 where
@@ -9,7 +11,11 @@ pub record Plan : Type 0 where
   pub contents : List (List ℕ)
 
 abbrev pub plan_of : Change → Plan
-plan_of c = record { count = c.count; numbers = c.numbers; contents = c.contents }
+plan_of c = record {
+  count = length c.homes.items;
+  numbers = padded 0 (numbers_in c.homes.items);
+  contents = padded (replicate 64 0) (contents_in c.homes.items);
+}
 
 abbrev pub number : Plan → ℕ → ℕ
 number p i = slice_index p.numbers i
@@ -39,3 +45,9 @@ with_more p b x = record {
   numbers = slice_set p.numbers p.count b;
   contents = slice_set p.contents p.count x;
 }
+
+-- the homes are those of the plan, each with its number and content
+pub record Lists (p : Plan) (homes : List Home) : Type 0 where
+  pub count : length homes ≡ p.count
+  pub numbers : (i : ℕ) → i < p.count → number_at homes i ≡ number p i
+  pub contents : (i : ℕ) → i < p.count → content_at homes i ≡ content p i

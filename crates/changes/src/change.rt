@@ -1,17 +1,22 @@
-ghost use Rattle.std.specs.Prelude.{◌≡◌, ℕ, ◌<◌, ◌≤◌, length, slice_index};
+ghost use Rattle.std.specs.Prelude.{◌≡◌, ℕ, ◌<◌, ◌≤◌, length};
+ghost use Rattle.changes.specs.Homes.{number_at};
+
+use arrayvec::ArrayVec;
+
+/// A home block and what it is to hold.
+#[derive(Clone, Copy, PartialEq, Eq, Debug, Default)]
+pub struct Home {
+    pub number: u16,
+    pub content: [u8; 64],
+}
 
 /// One to six home blocks with new contents, in strictly rising number.
 #[derive(Drop)]
 pub struct Change {
-    pub(crate) count: usize,
-    pub(crate) numbers: [u16; 6],
-    pub(crate) contents: [[u8; 64]; 6],
-    ghost some: { 1 ≤ count },
-    ghost few: { count ≤ 6 },
-    ghost six_numbers: { length numbers ≡ 6 },
-    ghost six_contents: { length contents ≡ 6 },
-    ghost rise: { (i j : ℕ) → i < j → j < count → slice_index numbers i < slice_index numbers j },
-    ghost low: { (i : ℕ) → i < count → 7 ≤ slice_index numbers i },
-    ghost two_bytes: { (i : ℕ) → slice_index numbers i < 65536 },
-    ghost past: { (i : ℕ) → count ≤ i → slice_index numbers i ≡ 0 },
+    pub(crate) homes: ArrayVec<Home, 6>,
+    ghost some: { 1 ≤ length homes.items },
+    ghost few: { length homes.items ≤ 6 },
+    ghost rise: { (i j : ℕ) → i < j → j < length homes.items → number_at homes.items i < number_at homes.items j },
+    ghost low: { (i : ℕ) → i < length homes.items → 7 ≤ number_at homes.items i },
+    ghost two_bytes: { (i : ℕ) → number_at homes.items i < 65536 },
 }

@@ -5,41 +5,31 @@ ghost use Rattle.changes.specs.Rounds.{RoundTrip};
 
 use crate::change::Change;
 
-/// The two bytes of a number, the low one first.
-fn bytes_of(number: u16) -> (u8, u8)
-    ensures low { result.0 ≡ number % 256 }
-    ensures high { result.1 ≡ number / 256 % 256 }
-{
-    ((number % 256) as u8, (number / 256 % 256) as u8)
-}
-
 impl Change {
     /// The commit block that names the change's blocks.
     pub fn commit_block(&self) -> [u8; 64]
         ensures value { result ≡ commit_block_of (plan_of self.now).count (plan_of self.now).numbers }
     {
         let mut block = [0; 64];
-        block[0] = self.count as u8;
-        let [a, b, c, d, e, f] = self.numbers;
-        (block[2], block[3]) = bytes_of(a);
-        (block[4], block[5]) = bytes_of(b);
-        (block[6], block[7]) = bytes_of(c);
-        (block[8], block[9]) = bytes_of(d);
-        (block[10], block[11]) = bytes_of(e);
-        (block[12], block[13]) = bytes_of(f);
+        block[0] = self.homes.len() as u8;
+        for (place, home) in self.homes.iter().enumerate() {
+            let bytes = home.number.to_le_bytes();
+            block[2 + 2 * place] = bytes[0];
+            block[3 + 2 * place] = bytes[1];
+        }
         block
     }
 }
 
 /// The number of the block that a commit block names at a place below 6; 0 from there on.
-pub fn named_block(commit: &[u8; 64], place: usize) -> u64
+pub fn named_block(commit: &[u8; 64], place: usize) -> u16
     ensures value { place < 6 → result ≡ number_of commit.now place }
     ensures beyond { 6 ≤ place → result ≡ 0 }
 {
     if place >= 6 {
         return 0;
     }
-    commit[2 + 2 * place] as u64 + 256 * commit[3 + 2 * place] as u64
+    u16::from_le_bytes([commit[2 + 2 * place], commit[3 + 2 * place]])
 }
 
 /// Whether the first `count` numbers rise strictly, from 7 on and below the size.
@@ -47,9 +37,10 @@ fn is_rising(commit: &[u8; 64], count: usize, size: u64) -> bool
     requires few { count ≤ 6 }
     ensures decides { Decides result (Rises size count (number_of commit.now)) }
 {
+    // A loop, since each number is held against the one before it, and the first against 6.
     let mut last = 6;
     for place in 0..count {
-        let number = named_block(commit, place);
+        let number = u64::from(named_block(commit, place));
         if number <= last || number >= size {
             return false;
         }
@@ -62,23 +53,18 @@ fn is_rising(commit: &[u8; 64], count: usize, size: u64) -> bool
 fn is_blank(commit: &[u8; 64], from: usize) -> bool
     ensures decides { Decides result ((j : ℕ) → from ≤ j → slice_index commit.now j ≡ 0) }
 {
-    for place in from..64 {
-        if commit[place] != 0 {
-            return false;
-        }
-    }
-    true
+    commit.iter().skip(from).all(|byte| *byte == 0)
 }
 
 /// Whether a commit block is lawful on a drive of that size.
 pub fn is_lawful(commit: &[u8; 64], size: u64) -> bool
     ensures decides { Decides result (Lawful size commit.now) }
 {
-    let count = commit[0] as usize;
-    if count > 6 || commit[1] != 0 {
-        return false;
-    }
-    is_rising(commit, count, size) && is_blank(commit, 2 + 2 * count)
+    let count = usize::from(commit[0]);
+    count <= 6
+        && commit[1] == 0
+        && is_rising(commit, count, size)
+        && is_blank(commit, 2 + 2 * count)
 }
 
 /// A theorem: what is written is read back, and what is lawful is what its own reading writes.

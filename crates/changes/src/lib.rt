@@ -7,5 +7,6 @@ mod commit;
 mod growing;
 mod reading;
 
-pub use change::Change;
+pub use change::{Change, Home};
 pub use commit::{commit_blocks_round_trip, is_lawful, named_block};
+pub use growing::DoesNotFit;

@@ -18,10 +18,10 @@ const BLOCKS: [u8; 4] = [7, 8, 9, 12];
 fn four_blocks() -> Option<Change> {
     let (first, others) = BLOCKS.split_first()?;
     let mut change = Change::of(u64::from(*first), &[*first; 64])?;
-    others
-        .iter()
-        .all(|&block| change.add(u64::from(block), &[block; 64]))
-        .then_some(change)
+    for block in others {
+        change.add(u64::from(*block), &[*block; 64]).ok()?;
+    }
+    Some(change)
 }
 
 /// Where a change was cut, or why it was not begun.

@@ -1,44 +1,22 @@
 -- Finishing: from its steps to what stands.
-use Rattle.std.proofs.Common.{◌≡◌, ℕ, ◌+◌, ◌<◌, ◌≤◌, true, List, [], length, get_or, set, sym, refl, ap, ◌∙◌, subst, inl, inr, arith}
-use Rattle.std.proofs.lemmas.List.{length-set, get_or-set_same, get_or-set_other, drop-set-lt, nil_from_length}
+use Rattle.std.proofs.Common.{◌≡◌, ℕ, ◌+◌, ◌<◌, ◌≤◌, true, Ok, Err, Result, MatchResult, List, [], length, get_or, set, sym, refl, ap, ◌∙◌, subst, inl, inr, arith}
+use Rattle.std.proofs.lemmas.List.{length-set, get_or-set_same, get_or-set_other, drop-set-lt}
+use Rattle.std.proofs.lemmas.Bool.{both_ways, cases_lt}
+use Rattle.drives.specs.declared.DriveFault.{DriveFault}
 use Rattle.drives.specs.Disk.{Disk, present, size, Settled}
 use Rattle.changes.specs.Commit.{count_of, number_of, zeros, Lawful}
+use Rattle.changes.specs.declared.change.Home.{Home}
+use Rattle.changes.specs.Homes.{number_at, content_at}
 use Rattle.journals.specs.Redo.{slots, home, finished}
 use Rattle.journals.specs.Standing.{Ready}
-use Rattle.journals.specs.Steps.{Gains, Wrote, Puts, CutPutting, Redoes, CutRedoing}
-use Rattle.journals.specs.Outcomes.{Finished, CutFinishing}
-use Rattle.journals.proofs.Overlay.{overlay_cong, finished_zero, finished_length, finished_low}
-use Rattle.journals.proofs.Crash.{clear_same, clear_lawful, lawful_clear, redo_blocks, redo_cut, redoing_off}
+use Rattle.journals.specs.Steps.{Redoes, CutRedoing}
+use Rattle.journals.specs.Outcomes.{Finishes, Finished, CutFinishing}
+use Rattle.journals.specs.declared.journal.FinishFault.{FinishFault}
+use Rattle.journals.specs.declared.journal.FinishFault.TheVariants.{PowerLost}
+use Rattle.journals.proofs.Same.{redoes_same, cut_redoing_same}
+use Rattle.journals.proofs.Overlay.{finished_zero, finished_length, finished_low}
+use Rattle.journals.proofs.Crash.{clear_same, lawful_clear, redo_blocks, redo_cut, redoing_off}
 use Rattle.journals.proofs.Whole.{ready_alone_at}
-
--- steps with the same numbers and contents are the same steps
-module _ (n : ℕ) (ns ms : ℕ → ℕ) (xs ys : ℕ → List ℕ) (f : (i : ℕ) → i < n → ns i ≡ ms i) (g : (i : ℕ) → i < n → xs i ≡ ys i) where
-  gains_same : (d e : Disk) → Gains n ns xs d e → Gains n ms ys d e
-  gains_same d e u k x h = elim (u k x h) [ inl a ↦ inl a | inr w ↦ inr (w.0, w.1, w.2 ∙ f w.0 w.1, w.3 ∙ g w.0 w.1) ]
-
-  wrote_same : (d e : Disk) → Wrote n ns xs d e → Wrote n ms ys d e
-  wrote_same d e u =
-      record { on = u.on; blocks = u.blocks ∙ overlay_cong n ns ms xs ys d.blocks f g; gains = gains_same d e u.gains }
-
-  puts_same : (d e : Disk) → Puts n ns xs d e → Puts n ms ys d e
-  puts_same d e (m, u, v) = (m, wrote_same d m u, v)
-
-  cut_putting_same : (d e : Disk) → CutPutting n ns xs d e → CutPutting n ms ys d e
-  cut_putting_same d e (inl u) = inl (record { off = u.off; same_size = u.same_size; gains = gains_same d e u.gains })
-  cut_putting_same d e (inr w) = inr (w.0, wrote_same d w.0 w.1, w.2)
-
-  pub redoes_same : (d e : Disk) → Redoes n ns xs d e → Redoes n ms ys d e
-  redoes_same d e (m, u, v) = (m, puts_same d m u, v)
-
-  pub cut_redoing_same : (d e : Disk) → CutRedoing n ns xs d e → CutRedoing n ms ys d e
-  cut_redoing_same d e (inl u) = inl (cut_putting_same d e u)
-  cut_redoing_same d e (inr w) = inr (w.0, puts_same d w.0 w.1, w.2)
-
--- a drive without blocks has nothing to finish
-pub empty_lawful : (d : Disk) → size d ≤ 0 → Lawful (size d) (present d 0)
-empty_lawful d h =
-    let e : present d 0 ≡ [] = ap (λ (p : List (List ℕ)). get_or p 0 []) (nil_from_length d.blocks (omega arith)) in
-    clear_lawful (size d) (present d 0) (λ j. ap (λ z. get_or z j 0) e)
 
 module _ (d e : Disk) (wide : 7 ≤ size d) (lawful : Lawful (size d) (present d 0)) where
   -- a commit block that names nothing
@@ -84,26 +62,54 @@ module _ (d e : Disk) (wide : 7 ≤ size d) (lawful : Lawful (size d) (present d
         cut = λ t. redo_cut (count_of (present d 0)) (number_of (present d 0)) (slots d.blocks) d e (record { wide = wide; settled = t; lawful = lawful; count = refl; numbers = λ i h. refl; slots_hold = λ i h. refl }) re;
       }
 
--- the same, as the code reads the commit block and the slots
-module _ (d e : Disk) (c : List ℕ) (n : ℕ) (ns : ℕ → ℕ) (xs : ℕ → List ℕ) (reads : c ≡ present d 0) (lawful : Lawful (size d) c) (counts : n ≡ count_of c) (some : 1 ≤ n) (numbers : (i : ℕ) → i < n → ns i ≡ number_of c i) (contents : (i : ℕ) → i < n → xs i ≡ slots d.blocks i) where
-  named_lawful : Lawful (size d) (present d 0)
-  named_lawful = subst (λ x. Lawful (size d) x) reads lawful
-
-  named_wide : 7 ≤ size d
-  named_wide = omega (arith, lawful.rises.low 0 (omega arith), lawful.rises.high 0 (omega arith))
-
-  named_count : n ≡ count_of (present d 0)
+-- the same, with homes that the code read: those that the commit block names, with what their slots hold
+module _ (d e : Disk) (c : List ℕ) (hs : List Home) (on : d.on ≡ true) (reads : c ≡ present d 0) (lawful : Lawful (size d) (present d 0)) (counts : length hs ≡ count_of c) (some : count_of c ≡ 0 → ⊥) (numbers : (i : ℕ) → i < count_of c → number_at hs i ≡ number_of c i) (contents : (i : ℕ) → i < count_of c → content_at hs i ≡ slots d.blocks i) where
+  named_count : length hs ≡ count_of (present d 0)
   named_count = counts ∙ ap count_of reads
 
-  named_numbers : (i : ℕ) → i < n → ns i ≡ number_of (present d 0) i
-  named_numbers i h = numbers i h ∙ ap (λ x. number_of x i) reads
+  named_some : count_of (present d 0) ≡ 0 → ⊥
+  named_some z = some (ap count_of reads ∙ z)
 
-  pub named_redone : Redoes n ns xs d e → Finished d e
+  named_wide : 7 ≤ size d
+  named_wide =
+      let first : 0 < count_of (present d 0) = elim (cases_lt 0 (count_of (present d 0))) [ inl h ↦ h | inr h ↦ absurd (named_some (omega arith)) ] in
+      omega (arith, lawful.rises.low 0 first, lawful.rises.high 0 first)
+
+  named_numbers : (i : ℕ) → i < length hs → number_at hs i ≡ number_of (present d 0) i
+  named_numbers i h = numbers i (omega (arith, counts)) ∙ ap (λ x. number_of x i) reads
+
+  named_contents : (i : ℕ) → i < length hs → content_at hs i ≡ slots d.blocks i
+  named_contents i h = contents i (omega (arith, counts))
+
+  named_redone : Redoes (length hs) (number_at hs) (content_at hs) d e → Finished d e
   named_redone re =
-      finished_redone d e named_wide named_lawful
-      (subst (λ m. Redoes m (number_of (present d 0)) (slots d.blocks) d e) named_count (redoes_same n ns (number_of (present d 0)) xs (slots d.blocks) named_numbers contents d e re))
+      finished_redone d e named_wide lawful
+      (subst (λ m. Redoes m (number_of (present d 0)) (slots d.blocks) d e) named_count (redoes_same (length hs) (number_at hs) (number_of (present d 0)) (content_at hs) (slots d.blocks) named_numbers named_contents d e re))
 
-  pub named_cut : CutRedoing n ns xs d e → CutFinishing d e
+  named_cut : CutRedoing (length hs) (number_at hs) (content_at hs) d e → CutFinishing d e
   named_cut re =
-      finishing_cut d e named_wide named_lawful
-      (subst (λ m. CutRedoing m (number_of (present d 0)) (slots d.blocks) d e) named_count (cut_redoing_same n ns (number_of (present d 0)) xs (slots d.blocks) named_numbers contents d e re))
+      finishing_cut d e named_wide lawful
+      (subst (λ m. CutRedoing m (number_of (present d 0)) (slots d.blocks) d e) named_count (cut_redoing_same (length hs) (number_at hs) (number_of (present d 0)) (content_at hs) (slots d.blocks) named_numbers named_contents d e re))
+
+  named_met :
+      (r : Result (Unit {0}) DriveFault) (m : Result (Unit {0}) FinishFault)
+      → MatchResult r (λ _. Redoes (length hs) (number_at hs) (content_at hs) d e) (λ _. CutRedoing (length hs) (number_at hs) (content_at hs) d e)
+      → MatchResult r (λ x. m ≡ Ok x) (λ _. m ≡ Err PowerLost)
+      → MatchResult m (λ _. Finished d e) (λ f. (f ≡ PowerLost) × CutFinishing d e)
+  named_met (Ok x) m re said =
+      subst (λ z. MatchResult z (λ _. Finished d e) (λ f. (f ≡ PowerLost) × CutFinishing d e)) (sym said) (named_redone re)
+  named_met (Err x) m re said =
+      subst (λ z. MatchResult z (λ _. Finished d e) (λ f. (f ≡ PowerLost) × CutFinishing d e)) (sym said) (refl, named_cut re)
+
+  pub finishes_named :
+      (r : Result (Unit {0}) DriveFault) (m : Result (Unit {0}) FinishFault)
+      → MatchResult r (λ _. Redoes (length hs) (number_at hs) (content_at hs) d e) (λ _. CutRedoing (length hs) (number_at hs) (content_at hs) d e)
+      → MatchResult r (λ x. m ≡ Ok x) (λ _. m ≡ Err PowerLost)
+      → Finishes d m e
+  finishes_named r m re said =
+      record {
+        refused_off = λ f. absurd (both_ways _ f on);
+        refused_unlawful = λ f n. absurd (n lawful);
+        nothing = λ f l z. absurd (named_some z);
+        met = λ f w l. named_met r m re said;
+      }

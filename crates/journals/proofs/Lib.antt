@@ -1,6 +1,7 @@
 pub mod Overlay
+pub mod Same
+pub mod Mapped
 mod Writing
-mod Telling
 pub mod Crash
 pub mod Staging
 pub mod Whole

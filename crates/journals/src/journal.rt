@@ -1,18 +1,21 @@
-ghost use Rattle.std.specs.Prelude.{◌≡◌, ◌<◌, ◌≤◌, true, MatchResult};
+ghost use Rattle.std.specs.Prelude.{◌≡◌, ℕ, ◌<◌, ◌≤◌, true, length, IsOk, IfOk, MatchResult};
 ghost use Rattle.drives.specs.Disk.{present, size as type_size};
-ghost use Rattle.changes.specs.Commit.{Lawful, count_of};
+ghost use Rattle.changes.specs.Commit.{count_of, number_of};
+ghost use Rattle.changes.specs.Homes.{number_at, content_at};
 ghost use Rattle.changes.specs.Plan.{plan_of, last};
+ghost use Rattle.journals.specs.Redo.{slots};
 ghost use Rattle.journals.specs.Steps.{StepsDone, StepsCut};
-ghost use Rattle.journals.specs.Outcomes.{ReadsBlock, PowersOn, Changes, Finishes, Finished, CutFinishing};
-ghost use Rattle.journals.specs.declared.journal.FinishFault.TheVariants as finish-fault;
+ghost use Rattle.journals.specs.Outcomes.{ReadsBlock, PowersOn, Changes, Finishes};
+ghost use Rattle.journals.specs.declared.journal.ChangeFault.TheVariants as change-fault;
 
 use crate::place::Place;
 use crate::steps;
-use changes::{Change, is_lawful, named_block};
+use arrayvec::ArrayVec;
+use changes::{Change, Home, is_lawful, named_block};
 use drives::{Drive, DriveFault};
 
 /// Why a change was not made.
-#[derive(Clone, Copy)]
+#[derive(Clone, Copy, PartialEq, Eq, Debug)]
 pub enum ChangeFault {
     /// There is no power. Nothing was touched.
     Off,
@@ -22,8 +25,17 @@ pub enum ChangeFault {
     Cut(Place),
 }
 
+/// A change that lost power at a place was cut there.
+impl From<Place> for ChangeFault {
+    ghost from_gives = { λ place fault. fault ≡ change-fault.Cut place };
+
+    fn from(place: Place) -> Self {
+        ChangeFault::Cut(place)
+    }
+}
+
 /// Why finishing did not end.
-#[derive(Clone, Copy)]
+#[derive(Clone, Copy, PartialEq, Eq, Debug)]
 pub enum FinishFault {
     /// There is no power. Nothing was touched.
     Off,
@@ -45,17 +57,9 @@ fn make<D: Drive>(drive: &mut D, change: &Change) -> Result<(), Place>
     requires within { last (plan_of change.now) < type_size (D.disk drive.old) }
     ensures steps { MatchResult result (λ _. StepsDone (plan_of change.now) (D.disk drive.old) (D.disk drive.new)) (λ p. StepsCut p (plan_of change.now) (D.disk drive.old) (D.disk drive.new)) }
 {
-    let count = change.len();
-    if let Err(_) = steps::stage(drive, change.contents(), count) {
-        return Err(Place::Staging);
-    }
-    if let Err(_) = steps::set_commit(drive, &change.commit_block()) {
-        return Err(Place::Committing);
-    }
-    match steps::redo(drive, &change.numbers(), change.contents(), count) {
-        Ok(()) => Ok(()),
-        Err(_) => Err(Place::Applying),
-    }
+    steps::stage(drive, change.homes()).map_err(|_| Place::Staging)?;
+    steps::set_commit(drive, &change.commit_block()).map_err(|_| Place::Committing)?;
+    steps::redo(drive, change.homes()).map_err(|_| Place::Applying)
 }
 
 impl<D: Drive> Journal<D> {
@@ -70,14 +74,14 @@ impl<D: Drive> Journal<D> {
     pub fn size(&self) -> u64
         ensures value { result ≡ type_size (D.disk self.now.drive) }
     {
-        D::size(&self.drive)
+        self.drive.size()
     }
 
     /// Whether there is power.
     pub fn is_on(&self) -> bool
         ensures value { result ≡ (D.disk self.now.drive).on }
     {
-        D::is_on(&self.drive)
+        self.drive.is_on()
     }
 
     /// What a block holds.
@@ -100,58 +104,56 @@ impl<D: Drive> Journal<D> {
     pub fn change(&mut self, change: &Change) -> Result<(), ChangeFault>
         ensures changes { Changes (D.disk self.old.drive) (plan_of change.now) result (D.disk self.new.drive) }
     {
-        if !self.drive.is_on() {
+        if !self.is_on() {
             return Err(ChangeFault::Off);
         }
-        if change.last() >= self.drive.size() {
+        if change.last() >= self.size() {
             return Err(ChangeFault::Beyond);
         }
-        match make(&mut self.drive, change) {
-            Ok(()) => Ok(()),
-            Err(place) => Err(ChangeFault::Cut(place)),
-        }
+        make(&mut self.drive, change)?;
+        Ok(())
     }
 
     /// Finishes what the commit block names, or does nothing where it names nothing.
     pub fn finish(&mut self) -> Result<(), FinishFault>
         ensures finishes { Finishes (D.disk self.old.drive) result (D.disk self.new.drive) }
     {
-        if !self.drive.is_on() {
+        if !self.is_on() {
             return Err(FinishFault::Off);
         }
-        let mut commit = [0; 64];
-        if let Err(_) = self.drive.read(0, &mut commit) {
+        // A drive that is on reads block 0, but for one without blocks, which has nothing to finish.
+        let Ok(commit) = self.read(0) else {
             return Ok(());
-        }
-        if !is_lawful(&commit, self.drive.size()) {
+        };
+        if !is_lawful(&commit, self.size()) {
             return Err(FinishFault::Unlawful);
         }
-        let count = commit[0] as usize;
-        if count == 0 {
+        if commit[0] == 0 {
             return Ok(());
         }
-        self.finish_named(&commit, count)
+        let homes = self
+            .read_named(&commit)
+            .map_err(|_| FinishFault::PowerLost)?;
+        steps::redo(&mut self.drive, &homes).map_err(|_| FinishFault::PowerLost)
     }
 
-    /// Carries home what a commit block that names some blocks names.
-    fn finish_named(&mut self, commit: &[u8; 64], count: usize) -> Result<(), FinishFault>
-        requires on { (D.disk self.old.drive).on ≡ true }
-        requires reads { commit.now ≡ present (D.disk self.old.drive) 0 }
-        requires lawful { Lawful (type_size (D.disk self.old.drive)) commit.now }
-        requires counts { count ≡ count_of commit.now }
-        requires some { 1 ≤ count }
-        ensures met { MatchResult result (λ _. Finished (D.disk self.old.drive) (D.disk self.new.drive)) (λ e. (e ≡ finish-fault.PowerLost) × CutFinishing (D.disk self.old.drive) (D.disk self.new.drive)) }
+    /// The home blocks that a lawful commit block names, each with what its slot holds.
+    fn read_named(&self, commit: &[u8; 64]) -> Result<ArrayVec<Home, 6>, DriveFault>
+        requires on { (D.disk self.now.drive).on ≡ true }
+        requires wide { 7 ≤ type_size (D.disk self.now.drive) }
+        requires few { count_of commit.now ≤ 6 }
+        ensures reads { IsOk result }
+        ensures counts { IfOk result (λ homes. length homes.items ≡ count_of commit.now) }
+        ensures numbers { IfOk result (λ homes. (i : ℕ) → i < count_of commit.now → number_at homes.items i ≡ number_of commit.now i) }
+        ensures contents { IfOk result (λ homes. (i : ℕ) → i < count_of commit.now → content_at homes.items i ≡ slots (D.disk self.now.drive).blocks i) }
     {
-        let mut numbers = [0; 6];
-        for i in 0..6 {
-            numbers[i] = named_block(commit, i);
+        let mut homes = ArrayVec::new();
+        for place in 0..usize::from(commit[0]) {
+            homes.push(Home {
+                number: named_block(commit, place),
+                content: self.read(1 + place as u64)?,
+            });
         }
-        let Ok(contents) = steps::read_slots(&self.drive, count) else {
-            return Err(FinishFault::PowerLost);
-        };
-        match steps::redo(&mut self.drive, &numbers, &contents, count) {
-            Ok(()) => Ok(()),
-            Err(_) => Err(FinishFault::PowerLost),
-        }
+        Ok(homes)
     }
 }
