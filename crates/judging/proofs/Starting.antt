@@ -64,16 +64,6 @@ module _ (m : Meaning) (d p e : Disk) (fits : lawful_size (size d) ≡ true) (po
   different : (x : FinishFault) → (◌≡◌ {A = Result (Unit {0}) FinishFault} (Ok tt) (Err x)) → ⊥
   different x q = not_ok tt x q
 
-  -- a drive that was finished is on, and as large as it was
-  pub finished_on : Finishes p (Ok tt) e → (e.on ≡ true) × (lawful_size (size e) ≡ true)
-  finished_on f =
-      elim (cases_Bool (lawful_commit (size p) (present p 0))) [
-        | inr n ↦ absurd (different fault.Unlawful (unlawful_says (Ok tt) f (not_from_Decides _ (lawful_decides (size p) (present p 0)) n)).0)
-        | inl y ↦ (
-            let done = f.met powers.met.on wide ((lawful_decides (size p) (present p 0)).0 y) in
-            ((done.ready powers.met.settled).on, ap lawful_size done.same_size ∙ left_lawful))
-      ]
-
   pub inspect_judged : (r : Result ℕ Refusal) → Finishes p (Ok tt) e → r ≡ judged m (room (size e)) (home e.blocks) → Inspects m d r e
   inspect_judged r f a =
       elim (cases_Bool (lawful_commit (size p) (present p 0))) [

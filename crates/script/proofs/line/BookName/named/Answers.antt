@@ -7,8 +7,3 @@ pub returns-in-ledger : goal.returns-in-ledger
 returns-in-ledger c =
     let text : c.args.word.now ≡ codes "ledger" = text_from_reads c.args.word.now (codes "ledger") (omega arith) (search rules) in
     record { value = rw text refl }
-
-pub returns-in-stock : goal.returns-in-stock
-returns-in-stock c =
-    let text : c.args.word.now ≡ codes "stock" = text_from_reads c.args.word.now (codes "stock") (omega arith) (search rules) in
-    record { value = rw text refl }

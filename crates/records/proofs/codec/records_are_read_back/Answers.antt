@@ -1,5 +1,0 @@
-use Rattle.records.proofs.Back.{parsed_back}
-use Rattle.records.proofs.codec.records_are_read_back.Goals as goal
-
-pub returns : goal.returns
-returns c = record { holds = parsed_back }
