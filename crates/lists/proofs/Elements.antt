@@ -1,6 +1,5 @@
 -- Tests of every element, with one of them replaced.
-use Rattle.std.proofs.Common.{◌≡◌, ℕ, zero, suc, ◌+◌, ◌<◌, Bool, true, ◌&&◌, List, [], ◌∷◌, length, get_or, drop, set, refl}
-use Rattle.std.proofs.lemmas.List.{at_drop_more}
+use Rattle.std.proofs.Common.{◌≡◌, ℕ, zero, suc, Bool, true, List, [], ◌∷◌, set, refl}
 use Rattle.std.proofs.lemmas.Bool.{and_parts, and_from}
 use Rattle.lists.specs.Every.{all}
 
@@ -13,9 +12,3 @@ all_set p (y ∷ ys) zero x h k = and_from (p x) (all p ys) h (and_parts (p y) (
 all_set p (y ∷ ys) (suc i) x h k =
     let parts = and_parts (p y) (all p ys) k in
     and_from (p y) (all p (set ys i x)) parts.0 (all_set p ys i x h parts.1)
-
--- all that is left pass if the next one does and all after it do
-pub all_drop_more :
-    {X : Type 0} (p : X → Bool) (xs : List X) (i : ℕ) (d : X)
-    → i < length xs → all p (drop i xs) ≡ (p (get_or xs i d) && all p (drop (i + 1) xs))
-all_drop_more p xs i d h = at_drop_more (all p) xs i d h
