@@ -39,7 +39,8 @@ pub fn rows_in(blocks: &[[u8; 64]; 8]) -> [Row; 32]
 }
 
 /// The eight blocks of 64 codes.
-// Tried: `array::from_fn` over `as_chunks`. What its closure learns of the codes that it captured does not reach the proof.
+// Tried: `array::from_fn` over `as_chunks`, and a `for` over `iter_mut().zip(..)`. Of the first, what the closure knows of the
+// codes that it captured does not reach the proof; of the second, what the loop wrote does not.
 pub fn codes_blocks(codes: &[u64; 64]) -> [[u8; 64]; 8]
     ensures value { result ≡ blocks_of_codes codes.now }
 {
