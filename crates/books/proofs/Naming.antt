@@ -10,7 +10,7 @@ find_from g [] k w h = refl
 find_from g (v ∷ vs) k w h =
     let here : g k ≡ Some v = ap g (omega arith) ∙ h 0 in
     let next : find (λ p. is_word (g p) w) (range_with_len (k + 1) (length vs)) ≡ named_from (k + 1) vs w =
-        find_from g vs (k + 1) w (λ i. ap g (omega arith) ∙ h (suc i)) in
+    find_from g vs (k + 1) w (λ i. ap g (omega arith) ∙ h (suc i)) in
     let e : named_from (k + 1) vs w ≡ named_from (suc k) vs w = ap (λ z. named_from z vs w) (add-one k) in
     ap (λ o. cond (is_word o w) (Some k) (find (λ p. is_word (g p) w) (range_with_len (k + 1) (length vs)))) here
     ∙ ap (λ z. cond (bytes_eq v w) (Some k) z) (next ∙ e)

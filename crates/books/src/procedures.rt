@@ -15,7 +15,8 @@ pub fn has_procedure<B: Book>(book: &B, procedure: u64) -> bool
 fn is_word_of<B: Book>(book: &B, procedure: u64, word: &[u8]) -> bool
     ensures value { result ≡ is_word (word_of B.meaning.words procedure) word.now }
 {
-    book.word(procedure).is_some_and(|name| name.as_bytes() == word)
+    book.word(procedure)
+        .is_some_and(|name| name.as_bytes() == word)
 }
 
 /// The procedure that a word names in a book, if it names one.

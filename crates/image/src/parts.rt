@@ -17,9 +17,7 @@ pub fn codes_in(blocks: &[[u8; 64]; 8]) -> [u64; 64]
     let mut codes = [0; 64];
     let read = |block: [u8; 64]| -> [u64; 8]
         ensures value { result ≡ codes_of block }
-    {
-        read_codes(&block)
-    };
+    { read_codes(&block) };
     codes.copy_from_slice(blocks.map(read).as_flattened());
     codes
 }
@@ -31,9 +29,7 @@ pub fn rows_in(blocks: &[[u8; 64]; 8]) -> [Row; 32]
     let mut rows = [Row::FREE; 32];
     let read = |block: [u8; 64]| -> [Row; 4]
         ensures value { result ≡ rows_of block }
-    {
-        read_rows(&block)
-    };
+    { read_rows(&block) };
     rows.copy_from_slice(blocks.map(read).as_flattened());
     rows
 }

@@ -27,7 +27,5 @@ pub enum Record {
     /// A row of the rights was filled.
     Certification(Certification),
     /// A row of the rights was freed.
-    Strike {
-        row: u8,
-    },
+    Strike { row: u8 },
 }
