@@ -23,5 +23,6 @@ fn is_word_of<B: Book>(book: &B, procedure: u64, word: &[u8]) -> bool
 pub fn procedure_named<B: Book>(book: &B, word: &[u8]) -> Option<u64>
     ensures value { result ≡ named B.meaning.words word.now }
 {
+    // Not `1..=`: the check does not find what a `find` over such a range gives.
     (1..book.procedures() + 1).find(|procedure| is_word_of(book, *procedure, word))
 }

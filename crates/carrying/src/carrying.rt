@@ -1,7 +1,7 @@
 ghost use Rattle.std.specs.Prelude.{◌≡◌};
 ghost use Rattle.carrying.specs.Standing.{standing_of};
 ghost use Rattle.carrying.specs.Carried.{carried};
-ghost use Rattle.carrying.specs.Results.{Carries};
+ghost use Rattle.carrying.specs.Results.{Leaves};
 
 use crate::held::Held;
 use books::Book;
@@ -11,8 +11,7 @@ use refusals::Refusal;
 impl Held {
     /// Carries out one record, or refuses it and changes nothing.
     pub fn carry_out<B: Book>(&mut self, book: &B, entry: Record) -> Result<(), Refusal>
-        ensures carries { Carries (carried B.meaning self.old.room (standing_of self.old) entry) (standing_of self.old) result (standing_of self.new) }
-        ensures same_room { self.new.room ≡ self.old.room }
+        ensures leaves { Leaves (carried B.meaning self.old.room (standing_of self.old) entry) self.old result self.new }
     {
         match entry {
             Record::Posting(posting) => self.post_record(book, posting),

@@ -2,7 +2,7 @@ ghost use Rattle.std.specs.Prelude.{◌≡◌, ◌+◌, ◌<◌};
 ghost use Rattle.records.specs.declared.record.Record.TheVariants.{Posting as OfPosting};
 ghost use Rattle.carrying.specs.Standing.{standing_of, with_codes};
 ghost use Rattle.carrying.specs.Carried.{carried, if_valid, posted};
-ghost use Rattle.carrying.specs.Results.{Carries};
+ghost use Rattle.carrying.specs.Results.{Leaves};
 
 use crate::held::Held;
 use books::{Book, Draft};
@@ -37,8 +37,7 @@ impl Held {
         requires a_within { posting.a < 64 }
         requires b_within { posting.b < 64 }
         requires room { self.old.count + 1 < 18446744073709551616 }
-        ensures carries { Carries (if_valid B.meaning (with_codes (standing_of self.old) posting.a posting.b codes.0 codes.1)) (standing_of self.old) result (standing_of self.new) }
-        ensures same_room { self.new.room ≡ self.old.room }
+        ensures leaves { Leaves (if_valid B.meaning (with_codes (standing_of self.old) posting.a posting.b codes.0 codes.1)) self.old result self.new }
     {
         let mut after = self.items;
         after[usize::from(posting.a)] = codes.0;
@@ -53,8 +52,7 @@ impl Held {
 
     /// Posts a note that passed its tests: two new codes and one record more.
     pub fn post<B: Book>(&mut self, book: &B, posting: Posting) -> Result<(), Refusal>
-        ensures carries { Carries (posted B.meaning self.old.room (standing_of self.old) posting.enterer posting.countersigner posting.procedure posting.a posting.b posting.amount) (standing_of self.old) result (standing_of self.new) }
-        ensures same_room { self.new.room ≡ self.old.room }
+        ensures leaves { Leaves (posted B.meaning self.old.room (standing_of self.old) posting.enterer posting.countersigner posting.procedure posting.a posting.b posting.amount) self.old result self.new }
     {
         let draft = draft_of(posting);
         let enterer = u64::from(posting.enterer);
@@ -91,8 +89,7 @@ impl Held {
 
     /// Posts what a record says, after the four tests of its note.
     pub(crate) fn post_record<B: Book>(&mut self, book: &B, posting: Posting) -> Result<(), Refusal>
-        ensures carries { Carries (carried B.meaning self.old.room (standing_of self.old) (OfPosting posting)) (standing_of self.old) result (standing_of self.new) }
-        ensures same_room { self.new.room ≡ self.old.room }
+        ensures leaves { Leaves (carried B.meaning self.old.room (standing_of self.old) (OfPosting posting)) self.old result self.new }
     {
         make_note(book, draft_of(posting))?;
         self.post(book, posting)

@@ -1,9 +1,9 @@
 ghost use Rattle.std.specs.Prelude.{◌≡◌, ◌≤◌};
 ghost use Rattle.refusals.specs.declared.reasons.Reason.TheVariants.{BadRow};
 ghost use Rattle.refusals.specs.Places.{row_place_number};
-ghost use Rattle.carrying.specs.Standing.{standing_of};
-ghost use Rattle.carrying.specs.Rows.{asked_row, checked_row, filled, certified, struck};
-ghost use Rattle.carrying.specs.Results.{Carries};
+ghost use Rattle.carrying.specs.Standing.{standing_of, with_row};
+ghost use Rattle.carrying.specs.Rows.{asked_row, checked_row, if_room, filled, certified, struck};
+ghost use Rattle.carrying.specs.Results.{Leaves};
 
 use crate::held::Held;
 use crate::row_draft::RowDraft;
@@ -26,7 +26,7 @@ pub fn check_row<B: Book>(book: &B, draft: RowDraft) -> Result<Row, Refusal>
     if draft.row > 31 {
         return Err(bad_row(RowPlace::Row));
     }
-    if draft.user < 1 || draft.user > 15 {
+    if !(1..=15).contains(&draft.user) {
         return Err(bad_row(RowPlace::User));
     }
     if !has_procedure(book, draft.procedure) {
@@ -45,26 +45,31 @@ pub fn check_row<B: Book>(book: &B, draft: RowDraft) -> Result<Row, Refusal>
 }
 
 impl Held {
-    /// Fills a free row, if there is room for the record.
-    fn fill(&mut self, place: u64, row: Row) -> Result<(), Refusal>
+    /// Replaces a row, if there is room for the record.
+    fn set_row(&mut self, place: u64, row: Row) -> Result<(), Refusal>
         requires within { place ≤ 31 }
-        ensures carries { Carries (filled self.old.room (standing_of self.old) place row) (standing_of self.old) result (standing_of self.new) }
-        ensures same_room { self.new.room ≡ self.old.room }
+        ensures leaves { Leaves (if_room self.old.room (standing_of self.old) (with_row (standing_of self.old) place row)) self.old result self.new }
     {
-        let before = self.rows[place as usize];
-        if !before.is_free() {
-            return Err(Refusal::at(Reason::RowTaken, place));
-        }
         self.check_room()?;
         self.rows[place as usize] = row;
         self.count += 1;
         Ok(())
     }
 
+    /// Fills a free row, if there is room for the record.
+    fn fill(&mut self, place: u64, row: Row) -> Result<(), Refusal>
+        requires within { place ≤ 31 }
+        ensures leaves { Leaves (filled self.old.room (standing_of self.old) place row) self.old result self.new }
+    {
+        if !self.rows[place as usize].is_free() {
+            return Err(Refusal::at(Reason::RowTaken, place));
+        }
+        self.set_row(place, row)
+    }
+
     /// Fills a row, if what is asked for is a row, it is free, and there is room for the record.
     pub(crate) fn certify<B: Book>(&mut self, book: &B, draft: RowDraft) -> Result<(), Refusal>
-        ensures carries { Carries (certified B.meaning self.old.room (standing_of self.old) draft.row (asked_row draft)) (standing_of self.old) result (standing_of self.new) }
-        ensures same_room { self.new.room ≡ self.old.room }
+        ensures leaves { Leaves (certified B.meaning self.old.room (standing_of self.old) draft.row (asked_row draft)) self.old result self.new }
     {
         let row = check_row(book, draft)?;
         self.fill(draft.row, row)
@@ -72,8 +77,7 @@ impl Held {
 
     /// Frees a row that is taken, if there is such a row and room for the record.
     pub(crate) fn strike(&mut self, place: u64) -> Result<(), Refusal>
-        ensures carries { Carries (struck self.old.room (standing_of self.old) place) (standing_of self.old) result (standing_of self.new) }
-        ensures same_room { self.new.room ≡ self.old.room }
+        ensures leaves { Leaves (struck self.old.room (standing_of self.old) place) self.old result self.new }
     {
         if place > 31 {
             return Err(bad_row(RowPlace::Row));
@@ -82,9 +86,6 @@ impl Held {
         if before.is_free() {
             return Err(Refusal::at(Reason::RowTaken, place));
         }
-        self.check_room()?;
-        self.rows[place as usize] = Row::FREE;
-        self.count += 1;
-        Ok(())
+        self.set_row(place, Row::FREE)
     }
 }

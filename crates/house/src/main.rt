@@ -21,7 +21,7 @@ fn read_input(rt: &HostRuntime) -> io::Result<Vec<u8>> {
 }
 
 /// The bytes of a file, or a line that says why they cannot be had.
-// `judge` has its own: the crates that both rest on read no files.
+// `judge` has its own: a crate for these lines alone would be no plainer.
 fn read_file(rt: &HostRuntime, path: &str) -> anyhow::Result<Vec<u8>> {
     fs::read(rt, path).or_else(|error| {
         eprintln!(rt; "house: cannot read {path}: {error}")?;

@@ -1,12 +1,10 @@
 -- Reading a part of eight blocks.
-use Rattle.std.proofs.Common.{◌≡◌, ℕ, ◌+◌, ◌-◌, ◌<◌, ◌≤◌, true, List, [], length, get_or, Ok, Err, Result, sym, ap, ◌∙◌, subst, inl, inr, arith}
+use Rattle.std.proofs.Common.{◌≡◌, ℕ, ◌+◌, ◌-◌, ◌<◌, ◌≤◌, true, List, [], length, get_or, Ok, sym, ap, ◌∙◌, arith}
 use Rattle.std.proofs.lemmas.List.FromFn.{get_or-map-range_with_len, length-map-range_with_len}
 use Rattle.std.proofs.lemmas.List.{get_or-drop, ext_get_or}
 use Rattle.std.proofs.lemmas.Bool.{both_ways}
-use Rattle.drives.specs.declared.DriveFault.{DriveFault}
 use Rattle.drives.specs.Disk.{Disk, present, size}
 use Rattle.journals.specs.Redo.{home}
-use Rattle.journals.proofs.Reading.{WasNotRead}
 use Rattle.image.specs.Home.{at, blocks_at}
 use Rattle.image.specs.Parts.{ReadsPart}
 
@@ -27,26 +25,3 @@ all_read d first xs low l on wide each =
       refused_beyond = λ _ h. absurd (omega arith);
       met = λ _ _. ap Ok same;
     }
-
--- one of them was not
-pub none_read : (d : Disk) (first i : ℕ) (e : DriveFault) → i < 8 → (0 < i → d.on ≡ true) → (0 < i → first + i ≤ size d) → WasNotRead d (first + i) e → ReadsPart d first (Err e)
-none_read d first i e h on wide n =
-    elim n.why [
-      | inl off ↦ record {
-        refused_off = λ _. ap Err off.1;
-        refused_beyond = λ t _. absurd (both_ways d.on off.0 t);
-        met = λ t _. absurd (both_ways d.on off.0 t);
-      }
-      | inr beyond ↦ record {
-        refused_off = λ f. absurd (both_ways d.on f beyond.0);
-        refused_beyond = λ _ _. ap Err beyond.2;
-        met = λ _ l. absurd (omega (arith, beyond.1));
-      }
-    ]
-
--- the same answer, by other names
-pub read_as :
-    (d : Disk) (first k : ℕ) (r : Result (List (List ℕ)) DriveFault) (e f : DriveFault)
-    → r ≡ Err f → f ≡ e → first ≡ k → ReadsPart d first (Err e) → ReadsPart d k r
-read_as d first k r e f p q s h =
-    subst (λ (z : ℕ). ReadsPart d z r) s (subst (λ (z : Result (List (List ℕ)) DriveFault). ReadsPart d first z) (sym (p ∙ ap Err q)) h)

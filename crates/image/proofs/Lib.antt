@@ -2,5 +2,4 @@ pub mod Differing
 pub mod Replaying
 pub mod Comparing
 pub mod Accepting
-mod Filling
 pub mod Found

@@ -10,6 +10,7 @@ use crate::part::Part;
 use layout::{codes_block, read_codes, read_rows, rows_block};
 use rights::Row;
 
+// Codes and rows have functions of their own: one for both would ask its callers that two lengths fit.
 /// The 64 codes that eight blocks hold.
 pub fn codes_in(blocks: &[[u8; 64]; 8]) -> [u64; 64]
     ensures value { result ≡ flat_map codes_of blocks.now }

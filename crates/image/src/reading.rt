@@ -11,7 +11,7 @@ pub fn read_part<D: Drive>(journal: &Journal<D>, part: Part) -> Result<[[u8; 64]
 {
     let first = part.first();
     let mut found = [[0; 64]; 8];
-    // No `array::try_from_fn`: what it promises says nothing of the journal that its closure would borrow.
+    // Tried: `array::try_from_fn`. What it promises says nothing of the journal that its closure borrows.
     for i in 0..8 {
         found[i] = journal.read(first + i as u64)?;
     }

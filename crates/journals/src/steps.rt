@@ -1,5 +1,6 @@
-// The steps of a change, on a drive that is on and wide enough for them. That it is on is asked for by each function,
-// and no type can promise it: the call in which power is lost ends it.
+// The steps of a change, on a drive that is on and wide enough for them. That it is on is asked for by each function, and is
+// no invariant of a type: the call in which power is lost ends it, and a token that each step took and gave back would be no
+// plainer.
 ghost use Rattle.std.specs.Prelude.{◌≡◌, ℕ, ◌<◌, ◌≤◌, true, length, MatchResult};
 ghost use Rattle.drives.specs.Disk.{size};
 ghost use Rattle.changes.specs.Homes.{number_at, content_at};

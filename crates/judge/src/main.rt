@@ -20,7 +20,7 @@ Nothing is written back. docs/IMAGE.md has the form of an image.";
 /// The audit of an image that was accepted, a line for each record.
 fn print_audit(rt: &HostRuntime, journal: &Journal<TrialDrive>, count: u64) -> anyhow::Result<()> {
     for number in 1..=u32::try_from(count)? {
-        // Record n stands in block 33 + n.
+        // Record n stands in block 33 + n. One that cannot be read is left out of the list.
         let Ok(block) = journal.read(33 + u64::from(number)) else {
             continue;
         };
@@ -52,7 +52,7 @@ fn print_verdict<B: Book>(
 }
 
 /// The bytes of a file, or a line that says why they cannot be had.
-// `house` has its own: the crates that both rest on read no files.
+// `house` has its own: a crate for these lines alone would be no plainer.
 fn read_file(rt: &HostRuntime, path: &str) -> anyhow::Result<Vec<u8>> {
     fs::read(rt, path).or_else(|error| {
         eprintln!(rt; "judge: cannot read {path}: {error}")?;
@@ -63,7 +63,7 @@ fn read_file(rt: &HostRuntime, path: &str) -> anyhow::Result<Vec<u8>> {
 /// Judges one file.
 fn judge_file(rt: &HostRuntime, book: BookName, path: &str) -> anyhow::Result<()> {
     let mut image = read_file(rt, path)?;
-    // Each book is a type of its own, so each arm names one.
+    // Each book is a type of its own, with constants and an item type, so no enum and no `dyn` stands for both: each arm names one.
     match book {
         BookName::Ledger => print_verdict(rt, &Ledger, path, image.as_mut_slice()),
         BookName::Stock => print_verdict(rt, &Stock, path, image.as_mut_slice()),

@@ -9,6 +9,7 @@ use encoding::four_at;
 pub fn head_block(head: Head) -> [u8; 64]
     ensures value { result ≡ head_form head }
 {
+    // Each byte at its place: this list is the format.
     let mut block = [0; 64];
     block[0..4].copy_from_slice(&head.house.to_le_bytes());
     block[4] = head.kind;

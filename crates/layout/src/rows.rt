@@ -9,6 +9,7 @@ use std::array;
 fn row_bytes(row: Row) -> [u8; 16]
     ensures value { result ≡ row_form row }
 {
+    // Each byte at its place: this list is the format.
     let mut bytes = [0; 16];
     bytes[0] = row.user;
     bytes[1] = row.procedure;
@@ -26,13 +27,11 @@ pub fn rows_block(rows: &[Row; 4]) -> [u8; 64]
     block
 }
 
-/// The row that a block's fields give at a place from 0 to 3; the free row from there on.
+/// The row that a block's fields give at a place from 0 to 3.
 fn row_at(block: &[u8; 64], place: usize) -> Row
-    ensures value { place < 4 → result ≡ row_from block.now (16 * place) }
+    requires within { place < 4 }
+    ensures value { result ≡ row_from block.now (16 * place) }
 {
-    if place >= 4 {
-        return Row::FREE;
-    }
     let at = 16 * place;
     Row {
         user: block[at],

@@ -39,6 +39,7 @@ enum Procedure {
 /// How many procedures there are.
 const PROCEDURES: u64 = Procedure::Shift as u64;
 
+// Each book has an enum and a `TryFrom` of its own: a trait over both would be as long as the two.
 /// The procedure of a number. The step refuses any other number as it refuses items that a procedure does not take.
 impl TryFrom<u64> for Procedure {
     ghost use Rattle.ledger.specs.Procedures.{Numbered};
@@ -118,6 +119,7 @@ fn total_of(codes: &[u64]) -> i128
     requires few { length codes.now ≤ 64 }
     ensures value { result ≡ total (map balance codes.now) }
 {
+    // No `sum()`: of signed numbers it leaves the bound open.
     let mut sum = 0;
     for code in codes {
         sum += i128::from(code.cast_signed());

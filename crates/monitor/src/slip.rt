@@ -8,8 +8,7 @@ pub struct Slip {
     pub(crate) note: Note,
     pub(crate) enterer: u8,
     pub(crate) house: u32,
-    // A type without `Drop` would need no flag, but then the compiler refuses a slip that is let fall, and the planted
-    // bug that does so never reaches the prover.
+    // A type without `Drop` would need no flag. docs/DECISIONS.md says why a slip has one.
     pub(crate) spent: bool,
 }
 

@@ -23,7 +23,7 @@ pub fn make_note<B: Book>(book: &B, draft: Draft) -> Result<Note, Refusal>
     if draft.b == draft.a {
         return Err(Refusal::at(Reason::SameItem, draft.b));
     }
-    if draft.amount < 1 || draft.amount > B::CEILING {
+    if !(1..=B::CEILING).contains(&draft.amount) {
         return Err(Refusal::at(Reason::BadAmount, draft.amount));
     }
     let numbers = Numbers {

@@ -24,6 +24,7 @@ struct Fields {
 fn lay_out(kind: Kind, fields: Fields, number: u32) -> [u8; 64]
     ensures value { result ≡ form (kind_number kind) fields.first fields.second fields.procedure fields.role fields.row fields.a fields.b fields.amount fields.mask number }
 {
+    // Each byte at its place: this list is the format.
     let mut block = [0; 64];
     block[0] = u8::from(kind);
     block[1] = fields.first;

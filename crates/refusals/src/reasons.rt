@@ -145,23 +145,12 @@ impl Reason {
             | Reason::NoSuchEntry => None,
         }
     }
-}
 
-/// The number that people see.
-impl From<Reason> for u8 {
-    ghost from_gives = { λ r n. n ≡ number r };
-
-    fn from(reason: Reason) -> u8 {
-        reason as u8
-    }
-}
-
-/// What the refusal means, in a few words.
-impl fmt::Display for Reason {
-    ghost output = { λ x. Some (meaning_of x) };
-
-    fn fmt<W: fmt::Write>(&self, f: &mut fmt::Formatter<W>) -> fmt::Result {
-        f.write_str(match self {
+    /// What the refusal means, in a few words.
+    pub fn meaning(self) -> &'static str
+        ensures value { result.now ≡ meaning_of self }
+    {
+        match self {
             Reason::NoSuchProcedure => "the book has no such procedure",
             Reason::NoSuchNoteItem => "there is no such item",
             Reason::SameItem => "the two items are the same",
@@ -187,7 +176,42 @@ impl fmt::Display for Reason {
             Reason::BadRow => "the row cannot be certified or struck",
             Reason::RowTaken => "the row is taken, or free already",
             Reason::NoSuchEntry => "there is no such item or record",
-        })
+        }
+    }
+}
+
+/// The number that people see.
+impl From<Reason> for u8 {
+    ghost from_gives = { λ r n. n ≡ number r };
+
+    fn from(reason: Reason) -> u8 {
+        reason as u8
+    }
+}
+
+/// What the refusal means, in a few words.
+impl fmt::Display for Reason {
+    ghost output = { λ x. Some (meaning_of x) };
+
+    fn fmt<W: fmt::Write>(&self, f: &mut fmt::Formatter<W>) -> fmt::Result {
+        f.write_str(self.meaning())
+    }
+}
+
+impl Layer {
+    /// The layer's name as it is printed.
+    pub fn name(self) -> &'static str
+        ensures value { result.now ≡ layer_name self }
+    {
+        match self {
+            Layer::Note => "note",
+            Layer::House => "house",
+            Layer::Drive => "drive",
+            Layer::Journal => "journal",
+            Layer::Image => "image",
+            Layer::Book => "book",
+            Layer::Monitor => "monitor",
+        }
     }
 }
 
@@ -196,24 +220,16 @@ impl fmt::Display for Layer {
     ghost output = { λ x. Some (layer_name x) };
 
     fn fmt<W: fmt::Write>(&self, f: &mut fmt::Formatter<W>) -> fmt::Result {
-        f.write_str(match self {
-            Layer::Note => "note",
-            Layer::House => "house",
-            Layer::Drive => "drive",
-            Layer::Journal => "journal",
-            Layer::Image => "image",
-            Layer::Book => "book",
-            Layer::Monitor => "monitor",
-        })
+        f.write_str(self.name())
     }
 }
 
-/// The rule's name.
-impl fmt::Display for Rule {
-    ghost output = { λ x. Some (rule_name x) };
-
-    fn fmt<W: fmt::Write>(&self, f: &mut fmt::Formatter<W>) -> fmt::Result {
-        f.write_str(match self {
+impl Rule {
+    /// The rule's name as it is printed.
+    pub fn name(self) -> &'static str
+        ensures value { result.now ≡ rule_name self }
+    {
+        match self {
             Rule::C1 => "C1",
             Rule::C2 => "C2",
             Rule::C3 => "C3",
@@ -223,6 +239,15 @@ impl fmt::Display for Rule {
             Rule::E2 => "E2",
             Rule::E3 => "E3",
             Rule::E4 => "E4",
-        })
+        }
+    }
+}
+
+/// The rule's name.
+impl fmt::Display for Rule {
+    ghost output = { λ x. Some (rule_name x) };
+
+    fn fmt<W: fmt::Write>(&self, f: &mut fmt::Formatter<W>) -> fmt::Result {
+        f.write_str(self.name())
     }
 }

@@ -37,6 +37,7 @@ pub fn covering_row(rows: &[Row], asked: Asked, item: u64) -> Option<usize>
     ensures item_within { is_some result ≡ true → item < 64 }
     ensures covers_item { IfSome result (λ k. (k < length rows.now) × (covers (slice_index_or rows.now k free) asked item ≡ true)) }
 {
+    // The row question is asked by a `for` with the index, left at a row that covers: so the project has it.
     for (k, row) in rows.iter().enumerate() {
         if row.covers(asked, item) {
             return Some(k);

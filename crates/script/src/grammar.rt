@@ -12,7 +12,7 @@ use stock::Stock;
 fn procedure_of(book: BookName, word: &[u8]) -> Option<u64>
     ensures value { result ≡ typed_procedure book word.now }
 {
-    // Each book is a type of its own, so each arm names one.
+    // Each book is a type of its own, with constants and an item type, so no enum and no `dyn` stands for both: each arm names one.
     let named = match book {
         BookName::Ledger => procedure_named(&Ledger, word),
         BookName::Stock => procedure_named(&Stock, word),

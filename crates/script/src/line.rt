@@ -2,11 +2,11 @@ ghost use Rattle.std.specs.Prelude.{◌≡◌};
 
 use books::Draft;
 
-/// The books that a script can choose, by their kind numbers.
+/// The books that a script can choose.
 #[derive(Clone, Copy, PartialEq, Eq, Debug)]
 pub enum BookName {
-    Ledger = 1,
-    Stock = 2,
+    Ledger,
+    Stock,
 }
 
 impl BookName {

@@ -25,7 +25,7 @@ pub fn answer_command(command: Command) -> Reply
     ensures value { result ≡ reply_to command }
 {
     let draft = command.typed.draft;
-    // Each book is a type of its own, so each arm names one.
+    // Each book is a type of its own, with constants and an item type, so no enum and no `dyn` stands for both: each arm names one.
     let answer = match command.typed.book {
         BookName::Ledger => note_in(&Ledger, draft),
         BookName::Stock => note_in(&Stock, draft),

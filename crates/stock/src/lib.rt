@@ -41,6 +41,7 @@ enum Procedure {
 /// How many procedures there are.
 const PROCEDURES: u64 = Procedure::Give as u64;
 
+// Each book has an enum and a `TryFrom` of its own: a trait over both would be as long as the two.
 /// The procedure of a number. The step refuses any other number as it refuses items that no procedure takes.
 impl TryFrom<u64> for Procedure {
     ghost use Rattle.stock.specs.Procedures.{Numbered};

@@ -15,6 +15,7 @@ const MOST_CUTS: usize = 16;
 #[derive(Drop)]
 pub struct TrialDrive<'a> {
     bytes: &'a mut [u8],
+    /// Whether there is power.
     on: bool,
     /// The cut numbers that no power call has taken yet.
     cuts: &'a [u16],
@@ -22,7 +23,7 @@ pub struct TrialDrive<'a> {
 }
 
 impl<'a> TrialDrive<'a> {
-    ghost use Rattle.trial.specs.State.{state_of, fresh, fault, read_answer};
+    ghost use Rattle.trial.specs.State.{state_of, fresh, fault, read_answer, power};
 
     /// A drive over the bytes, off, that takes the first 16 of the cut numbers.
     pub fn over(bytes: &'a mut [u8], cuts: &'a [u16]) -> TrialDrive<'a>
@@ -34,6 +35,20 @@ impl<'a> TrialDrive<'a> {
             cuts: &cuts[..cuts.len().min(MOST_CUTS)],
             fuse: Fuse::Never,
         }
+    }
+
+    /// Turns power off and on again, and takes the next cut number, if one is left.
+    pub fn turn_on(&mut self)
+        ensures state { state_of self.new ≡ power (state_of self.old) }
+    {
+        self.on = true;
+        self.fuse = match self.cuts.split_first() {
+            Some((cut, later)) => {
+                self.cuts = later;
+                Fuse::from(*cut)
+            }
+            None => Fuse::Never,
+        };
     }
 
     /// Makes the tests of read and write, in their order: power, block number, buffer.
@@ -138,20 +153,13 @@ impl<'a> Drive for TrialDrive<'a> {
         }
     }
 
-    /// Always done: takes the next cut number, if one is left.
+    /// Always done.
     fn power(&mut self) -> Result<(), DriveFault>
         ensures powers { Powers (disk_of self.old.on self.old.bytes.now) result (disk_of self.new.on self.new.bytes.now) }
         ensures answer { result ≡ Ok tt }
         ensures state { state_of self.new ≡ power (state_of self.old) }
     {
-        self.on = true;
-        self.fuse = match self.cuts.split_first() {
-            Some((cut, later)) => {
-                self.cuts = later;
-                Fuse::from(*cut)
-            }
-            None => Fuse::Never,
-        };
+        self.turn_on();
         Ok(())
     }
 }

@@ -1,5 +1,6 @@
 ghost use Rattle.std.specs.Prelude.{◌≡◌};
 
+// An `Option` would say no plainer what none of them means.
 /// When power fails next.
 #[derive(Clone, Copy, PartialEq, Eq, Debug)]
 pub enum Fuse {
@@ -9,6 +10,7 @@ pub enum Fuse {
     After { left: u16, lands: bool },
 }
 
+// No `Result`: the write that loses power may land all the same.
 /// How a write or a flush goes.
 #[derive(Clone, Copy, PartialEq, Eq, Debug)]
 pub enum Turn {
