@@ -67,6 +67,7 @@ impl<'a, D: Drive> Readable<'a, D> {
     fn compare(&self, held: &Held, count: u32) -> Result<u64, Refusal>
         ensures value { result ≡ compared count (differing_block (home (D.disk self.now.journal.now.drive).blocks) (standing_of held.now)) }
     {
+        // Each part in its own lines: one function for both would need a definition of its own, and is no plainer.
         let items = self.read_blocks(Part::Items)?;
         if let Some(block) = first_differing(Part::Items, &items, &codes_blocks(&held.items)) {
             return Err(Refusal::at(Reason::BlockDiffers, block));
