@@ -14,6 +14,7 @@ impl Change {
         block[0] = self.homes.len() as u8;
         for (place, home) in self.homes.iter().enumerate() {
             let bytes = home.number.to_le_bytes();
+            // Tried: `copy_from_slice` of both. The proof did not close.
             block[2 + 2 * place] = bytes[0];
             block[3 + 2 * place] = bytes[1];
         }

@@ -36,6 +36,7 @@ fn fault_text(fault: ChangeFault) -> &'static str {
     }
 }
 
+// The faults of the drill are the words that it prints.
 /// Makes the change with one cut number, or says what became of it.
 fn change_cut_at(bytes: &mut [u8], cut: u16) -> Result<(), &'static str> {
     let cuts = [cut];

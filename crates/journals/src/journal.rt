@@ -148,6 +148,7 @@ impl<D: Drive> Journal<D> {
         ensures contents { IfOk result (λ homes. (i : ℕ) → i < count_of commit.now → content_at homes.items i ≡ slots (D.disk self.now.drive).blocks i) }
     {
         let mut homes = ArrayVec::new();
+        // A `for` with `?`: of a `collect` into a `Result` the check does not learn when it fails.
         for place in 0..usize::from(commit[0]) {
             homes.push(Home {
                 number: named_block(commit, place),
