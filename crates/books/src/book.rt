@@ -1,6 +1,6 @@
 ghost use Rattle.std.specs.Prelude.{◌≡◌, ℕ, ◌^◌, ◌<◌, length};
 ghost use Rattle.std.specs.Option.{option_map};
-ghost use Rattle.books.specs.Meaning.{Meaning, KindInRange, CeilingInRange, StepKeepsValid};
+ghost use Rattle.books.specs.Meaning.{Meaning, KindInRange, CeilingInRange, StepTests, StepGivesCodes, StepKeepsValid};
 ghost use Rattle.books.specs.Words.{FewWords, ProperWords, word_of};
 
 use crate::draft::Draft;
@@ -59,6 +59,10 @@ pub trait Book {
     ghost few_words: { FewWords meaning };
 
     ghost proper_words: { ProperWords meaning };
+
+    ghost step_tests: { StepTests meaning };
+
+    ghost step_gives_codes: { StepGivesCodes meaning };
 
     ghost step_keeps_valid: { StepKeepsValid meaning };
 

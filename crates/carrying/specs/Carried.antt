@@ -16,7 +16,7 @@ use Rattle.carrying.specs.Standing.{Standing, with_codes, step_on}
 use Rattle.carrying.specs.Rows.{certified, struck}
 
 -- refused at the item that no row covers, if there is one
-abbrev pub unless : Reason → Option ℕ → Result Standing Refusal → Result Standing Refusal
+abbrev pub unless : {X : Type 0} → Reason → Option ℕ → Result X Refusal → Result X Refusal
 unless why None r = r
 unless why (Some item) r = refused why item
 

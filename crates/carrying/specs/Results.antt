@@ -13,3 +13,7 @@ Carries given before answer after =
 pub record Leaves (given : Result Standing Refusal) (before : Held) (answer : Result (Unit {0}) Refusal) (after : Held) : Type 0 where
   pub carries : Carries given (standing_of before) answer (standing_of after)
   pub same_room : after.room ≡ before.room
+
+-- it hands out what the definition gives, or refuses as the definition does
+abbrev pub Gives : Result Standing Refusal → Result Held Refusal → Type 0
+Gives given answer = MatchResult answer (λ held. given ≡ Ok (standing_of held)) (λ e. given ≡ Err e)

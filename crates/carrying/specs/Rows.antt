@@ -1,5 +1,5 @@
 -- When a row may be filled or freed.
-use Rattle.std.specs.Prelude.{ℕ, cond, ◌&&◌, ◌||◌, Ok, Result, ◌==◌, nat_le, nat_lt, slice_index_or}
+use Rattle.std.specs.Prelude.{ℕ, ◌<◌, ◌≤◌, cond, ◌&&◌, ◌||◌, Ok, Result, ◌==◌, nat_le, nat_lt, slice_index_or}
 use Rattle.refusals.specs.declared.reasons.Reason.TheVariants.{AuditFull, BadRow, RowTaken}
 use Rattle.refusals.specs.declared.refusal.Refusal.{Refusal}
 use Rattle.refusals.specs.declared.row_place.RowPlace.TheVariants as at
@@ -14,6 +14,13 @@ use Rattle.carrying.specs.Standing.{Standing, with_row}
 -- what a row that is asked for is to hold
 abbrev pub asked_row : RowDraft → Row
 asked_row d = record { user = d.user; procedure = d.procedure; role = d.role; mask = d.mask }
+
+-- a certification that a record has room for: the row is one of 32, and each other number fits a byte
+pub record InBytes (d : RowDraft) : Type 0 where
+  pub row : d.row ≤ 31
+  pub user : d.user < 256
+  pub procedure : d.procedure < 256
+  pub role : d.role < 256
 
 -- the row that a certification asks for, or what is at fault with it (23): the row above 31 (place 1), the user not from
 -- 1 to 15 (2), a procedure without a word (3), a role that is neither 1 nor 2 (4), a mask of 0 (5)

@@ -1,4 +1,4 @@
-ghost use Rattle.std.specs.Prelude.{◌≡◌, ◌+◌, ◌<◌};
+ghost use Rattle.std.specs.Prelude.{◌≡◌, ◌+◌, ◌<◌, OnOk};
 ghost use Rattle.records.specs.declared.record.Record.TheVariants.{Posting as OfPosting};
 ghost use Rattle.carrying.specs.Standing.{standing_of, with_codes};
 ghost use Rattle.carrying.specs.Carried.{carried, if_valid, posted};
@@ -53,6 +53,7 @@ impl Held {
     /// Posts a note that passed its tests: two new codes and one record more.
     pub fn post<B: Book>(&mut self, book: &B, posting: Posting) -> Result<(), Refusal>
         ensures leaves { Leaves (posted B.meaning self.old.room (standing_of self.old) posting.enterer posting.countersigner posting.procedure posting.a posting.b posting.amount) self.old result self.new }
+        ensures had_room { OnOk result (self.old.count < self.old.room) }
     {
         let draft = draft_of(posting);
         let enterer = u64::from(posting.enterer);

@@ -1,8 +1,8 @@
-ghost use Rattle.std.specs.Prelude.{◌≡◌, ◌≤◌};
+ghost use Rattle.std.specs.Prelude.{◌≡◌, ◌<◌, ◌≤◌, OnOk};
 ghost use Rattle.refusals.specs.declared.reasons.Reason.TheVariants.{BadRow};
 ghost use Rattle.refusals.specs.Places.{row_place_number};
 ghost use Rattle.carrying.specs.Standing.{standing_of, with_row};
-ghost use Rattle.carrying.specs.Rows.{asked_row, checked_row, if_room, filled, certified, struck};
+ghost use Rattle.carrying.specs.Rows.{asked_row, checked_row, if_room, filled, certified, struck, InBytes};
 ghost use Rattle.carrying.specs.Results.{Leaves};
 
 use crate::held::Held;
@@ -22,6 +22,7 @@ fn bad_row(place: RowPlace) -> Refusal
 /// The row that a certification asks for, or what is at fault with it.
 pub fn check_row<B: Book>(book: &B, draft: RowDraft) -> Result<Row, Refusal>
     ensures value { result ≡ checked_row B.meaning draft.row (asked_row draft) }
+    ensures in_bytes { OnOk result (InBytes draft) }
 {
     if draft.row > 31 {
         return Err(bad_row(RowPlace::Row));
@@ -49,6 +50,7 @@ impl Held {
     fn set_row(&mut self, place: u64, row: Row) -> Result<(), Refusal>
         requires within { place ≤ 31 }
         ensures leaves { Leaves (if_room self.old.room (standing_of self.old) (with_row (standing_of self.old) place row)) self.old result self.new }
+        ensures had_room { OnOk result (self.old.count < self.old.room) }
     {
         self.check_room()?;
         self.rows[place as usize] = row;
@@ -60,6 +62,7 @@ impl Held {
     fn fill(&mut self, place: u64, row: Row) -> Result<(), Refusal>
         requires within { place ≤ 31 }
         ensures leaves { Leaves (filled self.old.room (standing_of self.old) place row) self.old result self.new }
+        ensures had_room { OnOk result (self.old.count < self.old.room) }
     {
         if !self.rows[place as usize].is_free() {
             return Err(Refusal::at(Reason::RowTaken, place));
@@ -68,16 +71,20 @@ impl Held {
     }
 
     /// Fills a row, if what is asked for is a row, it is free, and there is room for the record.
-    pub(crate) fn certify<B: Book>(&mut self, book: &B, draft: RowDraft) -> Result<(), Refusal>
+    pub fn certify<B: Book>(&mut self, book: &B, draft: RowDraft) -> Result<(), Refusal>
         ensures leaves { Leaves (certified B.meaning self.old.room (standing_of self.old) draft.row (asked_row draft)) self.old result self.new }
+        ensures had_room { OnOk result (self.old.count < self.old.room) }
+        ensures in_bytes { OnOk result (InBytes draft) }
     {
         let row = check_row(book, draft)?;
         self.fill(draft.row, row)
     }
 
     /// Frees a row that is taken, if there is such a row and room for the record.
-    pub(crate) fn strike(&mut self, place: u64) -> Result<(), Refusal>
+    pub fn strike(&mut self, place: u64) -> Result<(), Refusal>
         ensures leaves { Leaves (struck self.old.room (standing_of self.old) place) self.old result self.new }
+        ensures had_room { OnOk result (self.old.count < self.old.room) }
+        ensures within { OnOk result (place ≤ 31) }
     {
         if place > 31 {
             return Err(bad_row(RowPlace::Row));

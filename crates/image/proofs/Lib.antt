@@ -3,3 +3,4 @@ pub mod Replaying
 pub mod Comparing
 pub mod Accepting
 pub mod Found
+pub mod Places

@@ -7,3 +7,4 @@ pub mod Staging
 pub mod Whole
 pub mod Finishing
 pub mod Reading
+pub mod Runs

@@ -2,3 +2,4 @@ pub mod Redo
 pub mod Standing
 pub mod Steps
 pub mod Outcomes
+pub mod Laying

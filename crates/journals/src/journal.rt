@@ -6,8 +6,10 @@ ghost use Rattle.changes.specs.Plan.{plan_of, last};
 ghost use Rattle.journals.specs.Redo.{slots};
 ghost use Rattle.journals.specs.Steps.{StepsDone, StepsCut};
 ghost use Rattle.journals.specs.Outcomes.{ReadsBlock, PowersOn, Changes, Finishes};
+ghost use Rattle.journals.specs.Laying.{LaysDown};
 ghost use Rattle.journals.specs.declared.journal.ChangeFault.TheVariants as change-fault;
 
+use crate::laying::lay_blocks;
 use crate::place::Place;
 use crate::steps;
 use arrayvec::ArrayVec;
@@ -135,6 +137,19 @@ impl<D: Drive> Journal<D> {
             .read_named(&commit)
             .map_err(|_| FinishFault::PowerLost)?;
         steps::redo(&mut self.drive, &homes).map_err(|_| FinishFault::PowerLost)
+    }
+
+    /// Empties the journal and lays down the first home blocks, 7 to 33, for a drive that is to begin anew.
+    pub fn lay_down(&mut self, home: &[[u8; 64]; 27]) -> Result<(), DriveFault>
+        ensures lays_down { LaysDown (D.disk self.old.drive) home.now result (D.disk self.new.drive) }
+    {
+        if !self.is_on() {
+            return Err(DriveFault::Off);
+        }
+        if self.size() < 34 {
+            return Err(DriveFault::NoSuchBlock);
+        }
+        lay_blocks(&mut self.drive, home).map_err(|_| DriveFault::PowerLost)
     }
 
     /// The home blocks that a lawful commit block names, each with what its slot holds.

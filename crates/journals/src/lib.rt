@@ -3,6 +3,7 @@
 #![tactic(auto)]
 
 mod journal;
+mod laying;
 mod place;
 mod steps;
 

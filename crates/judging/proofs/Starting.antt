@@ -4,10 +4,9 @@ use Rattle.std.specs.Prelude.{MatchResult}
 use Rattle.std.proofs.lemmas.Bool.{and_parts, and_from, leb-true, le-leb, both_ways, cases_Bool, cond-true}
 use Rattle.std.proofs.lemmas.Bool.Decides.{not_from_Decides}
 use Rattle.refusals.specs.declared.power_place.PowerPlace.TheVariants.{Starting}
-use Rattle.refusals.specs.declared.reasons.Reason.TheVariants.{PowerLost, BadCommitBlock}
+use Rattle.refusals.specs.declared.reasons.Reason.TheVariants.{BadCommitBlock}
 use Rattle.refusals.specs.declared.refusal.Refusal.{Refusal}
-use Rattle.refusals.specs.Places.{power_place_number}
-use Rattle.refusals.specs.Refused.{refused}
+use Rattle.refusals.specs.Refused.{refused, lost_at}
 use Rattle.books.specs.Meaning.{Meaning}
 use Rattle.drives.specs.Disk.{Disk, present, size}
 use Rattle.changes.specs.Commit.{Lawful, lawful_commit}
@@ -87,7 +86,7 @@ module _ (m : Meaning) (d p e : Disk) (fits : lawful_size (size d) ≡ true) (po
         | inl y ↦ absurd (let q = (f.met powers.met.on wide ((lawful_decides (size p) (present p 0)).0 y)).0 in let z : ◌≡◌ {A = ℕ} 0 1 = cc in omega arith)
       ]
 
-  inspect_lost : (r : Result ℕ Refusal) (x : FinishFault) → (x ≡ fault.Unlawful → ⊥) → Finishes p (Err x) e → r ≡ refused PowerLost (power_place_number Starting) → Inspects m d r e
+  inspect_lost : (r : Result ℕ Refusal) (x : FinishFault) → (x ≡ fault.Unlawful → ⊥) → Finishes p (Err x) e → r ≡ Err (lost_at Starting) → Inspects m d r e
   inspect_lost r x nu f a =
       elim (cases_Bool (lawful_commit (size p) (present p 0))) [
         | inr n ↦ absurd (nu (same_fault x fault.Unlawful (unlawful_says (Err x) f (not_from_Decides _ (lawful_decides (size p) (present p 0)) n)).0))

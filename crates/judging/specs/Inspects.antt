@@ -1,10 +1,9 @@
 -- What an inspection makes of a drive: d is the drive before, e after, and p what the power call left between them.
-use Rattle.std.specs.Prelude.{◌≡◌, ℕ, true, false, ◌⊎◌, Result}
+use Rattle.std.specs.Prelude.{◌≡◌, ℕ, true, false, ◌⊎◌, Err, Result}
 use Rattle.refusals.specs.declared.power_place.PowerPlace.TheVariants.{Starting}
-use Rattle.refusals.specs.declared.reasons.Reason.TheVariants.{PowerLost, BadSize, BadCommitBlock}
+use Rattle.refusals.specs.declared.reasons.Reason.TheVariants.{BadSize, BadCommitBlock}
 use Rattle.refusals.specs.declared.refusal.Refusal.{Refusal}
-use Rattle.refusals.specs.Places.{power_place_number}
-use Rattle.refusals.specs.Refused.{refused}
+use Rattle.refusals.specs.Refused.{refused, lost_at}
 use Rattle.books.specs.Meaning.{Meaning}
 use Rattle.drives.specs.Disk.{Disk, present, size}
 use Rattle.drives.specs.Calls.{Powered, Cut}
@@ -17,19 +16,19 @@ use Rattle.image.specs.Verdict.{verdict}
 
 -- the refusal where finishing did not end
 abbrev pub unfinished_for : FinishFault → Result ℕ Refusal
-unfinished_for fault.Off = refused PowerLost (power_place_number Starting)
+unfinished_for fault.Off = Err (lost_at Starting)
 unfinished_for fault.Unlawful = refused BadCommitBlock 0
-unfinished_for fault.PowerLost = refused PowerLost (power_place_number Starting)
+unfinished_for fault.PowerLost = Err (lost_at Starting)
 
 -- power was lost in the power call: nothing was added to what may stand
 pub record LostPowering (d : Disk) (r : Result ℕ Refusal) (e : Disk) : Type 0 where
-  pub answer : r ≡ refused PowerLost (power_place_number Starting)
+  pub answer : r ≡ Err (lost_at Starting)
   pub cut : Cut d e
   pub adds_nothing : AddsNothing d e
 
 -- power was lost in finishing
 pub record LostFinishing (p : Disk) (r : Result ℕ Refusal) (e : Disk) : Type 0 where
-  pub answer : r ≡ refused PowerLost (power_place_number Starting)
+  pub answer : r ≡ Err (lost_at Starting)
   pub lawful : Lawful (size p) (present p 0)
   pub cut : CutFinishing p e
 

@@ -4,9 +4,9 @@
 ghost use Rattle.std.specs.Prelude.{◌≡◌, ◌≤◌, Some, map, length};
 ghost use Rattle.ledger.specs.Ledger.{ledger, ledger_takes, own, depositor, balance, within, total, code_changed};
 ghost use Rattle.lists.specs.Every.{all};
-ghost use Rattle.books.specs.Meaning.{StepTests, StepGivesCodes};
 ghost use Rattle.books.specs.Words.{word_of};
 ghost use Rattle.ledger.specs.Keeping.{ledger_keeps};
+ghost use Rattle.ledger.specs.Stepping.{ledger_tests, ledger_gives_codes};
 ghost use Rattle.std.proofs.Common.{rules};
 
 use books::{Book, Draft};
@@ -163,6 +163,10 @@ impl Book for Ledger {
 
     ghost proper_words = { Prim.search rules };
 
+    ghost step_tests = { ledger_tests };
+
+    ghost step_gives_codes = { ledger_gives_codes };
+
     ghost step_keeps_valid = { ledger_keeps };
 
     ghost one_code_each = { Prim.search rules };
@@ -201,12 +205,4 @@ impl Book for Ledger {
         let less = changed(codes.1, -change).ok_or(StepPlace::Values)?;
         Ok((more, less))
     }
-}
-
-/// A theorem: the step makes its tests in their order, and from codes of 64 bits it gives codes of 64 bits.
-pub fn ledger_step_is_tested() -> bool
-    ensures tests { StepTests ledger }
-    ensures codes { StepGivesCodes ledger }
-{
-    true
 }

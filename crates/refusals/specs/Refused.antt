@@ -1,7 +1,14 @@
 -- A refusal as an answer, and tests one after another.
 use Rattle.std.specs.Prelude.{ℕ, Ok, Err, Result}
 use Rattle.refusals.specs.declared.reasons.Reason.{Reason}
+use Rattle.refusals.specs.declared.reasons.Reason.TheVariants.{PowerLost}
+use Rattle.refusals.specs.declared.power_place.PowerPlace.{PowerPlace}
 use Rattle.refusals.specs.declared.refusal.Refusal.{Refusal}
+use Rattle.refusals.specs.Places.{power_place_number}
+
+-- power was lost, at a place
+abbrev pub lost_at : PowerPlace → Refusal
+lost_at place = record { reason = PowerLost; place = power_place_number place }
 
 -- refused for a reason, at a place
 abbrev pub refused : {X : Type 0} → Reason → ℕ → Result X Refusal

@@ -1,6 +1,8 @@
 ghost use Rattle.std.specs.Prelude.{◌≡◌, Some};
+ghost use Rattle.refusals.specs.Refused.{lost_at};
 ghost use Rattle.refusals.specs.Texts.{guarded, line};
 
+use crate::power_place::PowerPlace;
 use crate::reasons::{Reason, Rule};
 use std::fmt;
 
@@ -18,6 +20,13 @@ impl Refusal {
         ensures names_place { result.place ≡ place }
     {
         Refusal { reason, place }
+    }
+
+    /// Power was lost, at a place.
+    pub fn power_lost(place: PowerPlace) -> Refusal
+        ensures value { result ≡ lost_at place }
+    {
+        Refusal::at(Reason::PowerLost, place.into())
     }
 }
 

@@ -5,9 +5,9 @@
 ghost use Rattle.std.specs.Prelude.{◌≡◌, ◌≤◌, sum_by, length};
 ghost use Rattle.stock.specs.Stock.{stock, shelf_ok, in_order, held, most, reels_code};
 ghost use Rattle.lists.specs.Every.{all};
-ghost use Rattle.books.specs.Meaning.{StepTests, StepGivesCodes};
 ghost use Rattle.books.specs.Words.{word_of};
 ghost use Rattle.stock.specs.Keeping.{stock_keeps};
+ghost use Rattle.stock.specs.Stepping.{stock_tests, stock_gives_codes};
 ghost use Rattle.std.proofs.Common.{rules};
 
 use books::{Book, Draft};
@@ -177,6 +177,10 @@ impl Book for Stock {
 
     ghost proper_words = { Prim.search rules };
 
+    ghost step_tests = { stock_tests };
+
+    ghost step_gives_codes = { stock_gives_codes };
+
     ghost step_keeps_valid = { stock_keeps };
 
     ghost one_code_each = { Prim.search rules };
@@ -227,12 +231,4 @@ impl Book for Stock {
         }
         Ok((u64::from(shelf), u64::from(sums)))
     }
-}
-
-/// A theorem: the step makes its tests in their order, and from codes of 64 bits it gives codes of 64 bits.
-pub fn stock_step_is_tested() -> bool
-    ensures tests { StepTests stock }
-    ensures codes { StepGivesCodes stock }
-{
-    true
 }

@@ -1,0 +1,98 @@
+-- The tally: what the books should hold, by the calls' arguments and answers alone.
+use Rattle.std.specs.Prelude.{ℕ, ◌+◌, cond, List, [], ◌∷◌, ◌++◌, length, Some, None, Ok, Err, Option, Result, ◌==◌}
+use Rattle.refusals.specs.declared.power_place.PowerPlace.TheVariants as power
+use Rattle.refusals.specs.declared.refusal.Refusal.{Refusal}
+use Rattle.refusals.specs.Numbers.{number}
+use Rattle.refusals.specs.Places.{power_place_number}
+use Rattle.books.specs.Meaning.{Meaning}
+use Rattle.records.specs.declared.record.Record.{Record}
+use Rattle.records.specs.declared.record.Record.TheVariants.{Strike}
+use Rattle.carrying.specs.Standing.{Standing, opened, effect}
+use Rattle.monitor.specs.Calls.{posting, certification}
+use Rattle.desk.specs.Events.{Event, Formatted, Attached, NoteEntered, Countersigned, Certified, Struck, ItemSeen, RecordSeen}
+
+-- books as they should be: the opening; what stands, the items, the rows and how many records; and the records in order, one for
+-- each change that stands
+pub record Books : Type 0 where
+  pub opening : List ℕ
+  pub standing : Standing
+  pub records : List Record
+
+-- at format: the opening, 32 free rows and no records
+abbrev pub began : List ℕ → Books
+began opening = record { opening = opening; standing = opened opening; records = [] }
+
+-- a change that is made: its effect on what stands, and its record behind the others; nothing if the step refuses
+abbrev pub made_to : Books → Record → Option Standing → Books
+made_to b x None = b
+made_to b x (Some s) = record { opening = b.opening; standing = s; records = b.records ++ (x ∷ []) }
+
+abbrev pub made : Meaning → Books → Record → Books
+made m b x = made_to b x (effect m b.standing x)
+
+-- the books, and the change, if there is one, of which power left open whether it stands
+pub record Tally : Type 0 where
+  pub books : Books
+  pub doubt : Option Record
+
+abbrev pub certain : Books → Tally
+certain b = record { books = b; doubt = None }
+
+abbrev pub in_doubt : Books → Record → Tally
+in_doubt b x = record { books = b; doubt = Some x }
+
+-- a change that lost power: at place 3 it is made at once, at place 2 it is in doubt, else it is nothing
+abbrev pub cut_at : Meaning → Tally → Record → ℕ → Tally
+cut_at m t x place =
+    cond (place == power_place_number power.Applying) (record { books = made m t.books x; doubt = t.doubt })
+    (cond (place == power_place_number power.Committing) (in_doubt t.books x) t)
+
+-- a change by its answer: acknowledged, it is made at once; refused, it is nothing, but for lost power
+abbrev pub by_answer : Meaning → Tally → Record → Result ℕ Refusal → Tally
+by_answer m t x (Ok n) = record { books = made m t.books x; doubt = t.doubt }
+by_answer m t x (Err e) = cond (number e.reason == 7) (cut_at m t x e.place) t
+
+-- the change in doubt is made at the next accepted attach if that answers one record more than the tally holds, and
+-- otherwise never
+abbrev pub settled : Meaning → Books → ℕ → Option Record → Tally
+settled m b n None = certain b
+settled m b n (Some x) = cond (n == length b.records + 1) (certain (made m b x)) (certain b)
+
+abbrev pub attached : Meaning → Tally → Result ℕ Refusal → Tally
+attached m t (Ok n) = settled m t.books n t.doubt
+attached m t (Err e) = t
+
+-- format, from whatever tally there was: accepted, it begins anew; cut, there is none; else as it was
+abbrev pub formatted : List ℕ → Result ℕ Refusal → Option Tally → Option Tally
+formatted opening (Ok n) o = Some (certain (began opening))
+formatted opening (Err e) o = cond (number e.reason == 7) None o
+
+-- the tally after one event more
+abbrev pub fed : Meaning → Tally → Event → Tally
+fed m t (Formatted house roll opening r) = t
+fed m t (Attached r) = attached m t r
+fed m t (NoteEntered user word note r) = t
+fed m t (Countersigned user word slip r) = by_answer m t (posting slip user) r
+fed m t (Certified word draft r) = by_answer m t (certification draft) r
+fed m t (Struck word row r) = by_answer m t (Strike row) r
+fed m t (ItemSeen item r) = t
+fed m t (RecordSeen number r) = t
+
+abbrev pub fed_if : Meaning → Option Tally → Event → Option Tally
+fed_if m None e = None
+fed_if m (Some t) e = Some (fed m t e)
+
+abbrev pub feed : Meaning → Option Tally → Event → Option Tally
+feed m o (Formatted house roll opening r) = formatted opening r o
+feed m o (Attached r) = fed_if m o (Attached r)
+feed m o (NoteEntered user word note r) = fed_if m o (NoteEntered user word note r)
+feed m o (Countersigned user word slip r) = fed_if m o (Countersigned user word slip r)
+feed m o (Certified word draft r) = fed_if m o (Certified word draft r)
+feed m o (Struck word row r) = fed_if m o (Struck word row r)
+feed m o (ItemSeen item r) = fed_if m o (ItemSeen item r)
+feed m o (RecordSeen number r) = fed_if m o (RecordSeen number r)
+
+-- the tally of all that happened, the latest event first: none before an accepted format, none after one that was cut
+abbrev pub tally : Meaning → List Event → Option Tally
+tally m [] = None
+tally m (e ∷ es) = feed m (tally m es) e

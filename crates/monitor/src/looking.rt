@@ -1,0 +1,42 @@
+ghost use Rattle.std.specs.Prelude.{◌≡◌};
+ghost use Rattle.monitor.specs.Asking.{item_seen, record_seen};
+ghost use Rattle.monitor.specs.Machine.{machine};
+
+use crate::monitor::Monitor;
+use crate::reading::Reader;
+use crate::stage::{CallKind, admit};
+use books::Book;
+use drives::Drive;
+use records::{Record, decode};
+use refusals::{Reason, Refusal};
+
+impl<D: Drive, B: Book> Monitor<D, B> {
+    /// The code of an item.
+    pub fn item(&self, item: u64) -> Result<u64, Refusal>
+        ensures answer { result ≡ item_seen (machine self.now.stage (D.disk self.now.journal.drive)) item }
+    {
+        admit(self.stage, CallKind::Working)?;
+        let reader = Reader {
+            journal: &self.journal,
+        };
+        if item >= 64 {
+            return Err(Refusal::at(Reason::NoSuchEntry, item));
+        }
+        Ok(reader.code(item))
+    }
+
+    /// A record of the audit, by its number.
+    pub fn record(&self, number: u64) -> Result<Record, Refusal>
+        ensures answer { result ≡ record_seen (machine self.now.stage (D.disk self.now.journal.drive)) number }
+    {
+        admit(self.stage, CallKind::Working)?;
+        let reader = Reader {
+            journal: &self.journal,
+        };
+        let none = Refusal::at(Reason::NoSuchEntry, number);
+        if !(1..=u64::from(reader.head().count)).contains(&number) {
+            return Err(none);
+        }
+        decode(&reader.block(33 + number), number as u32).ok_or(none)
+    }
+}

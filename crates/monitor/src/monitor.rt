@@ -1,0 +1,39 @@
+ghost use Rattle.std.specs.Prelude.{◌≡◌};
+ghost use Rattle.monitor.specs.Standing.{Steady};
+ghost use Rattle.monitor.specs.declared.stage.Stage.TheVariants.{Shut, Open};
+
+use crate::stage::Stage;
+use books::Book;
+use drives::Drive;
+use journals::Journal;
+
+/// A monitor over a drive, which it owns through the journal, and a book. It keeps nothing of the books in memory: what they
+/// hold is what the drive holds.
+#[derive(Drop)]
+pub struct Monitor<D: Drive, B: Book> {
+    pub(crate) journal: Journal<D>,
+    pub(crate) book: B,
+    pub(crate) stage: Stage,
+    ghost steady: { stage ≡ Open → Steady (D.disk journal.drive) },
+}
+
+impl<D: Drive, B: Book> Monitor<D, B> {
+    /// A monitor over a drive and a book, at first shut.
+    pub fn over(drive: D, book: B) -> Monitor<D, B>
+        ensures shut { result.stage ≡ Shut }
+        ensures holds { result.journal.drive ≡ drive }
+    {
+        Monitor {
+            journal: Journal::over(drive),
+            book,
+            stage: Stage::Shut,
+        }
+    }
+
+    /// The stage that the monitor has come to.
+    pub fn stage(&self) -> Stage
+        ensures value { result ≡ self.now.stage }
+    {
+        self.stage
+    }
+}
