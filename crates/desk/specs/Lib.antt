@@ -1,3 +1,4 @@
 pub mod Events
 pub mod Tally
 pub mod Law
+pub mod Serving

@@ -21,15 +21,22 @@ impl Slip {
         }
     }
 
-    /// Ends the slip without a posting, and hands out its numbers.
-    pub fn withdraw(mut self) -> Entered
-        ensures value { result ≡ entered_of self }
+    /// The numbers that the slip holds.
+    pub fn entered(&self) -> Entered
+        ensures value { result ≡ entered_of self.now }
     {
-        self.spent = true;
         Entered {
             numbers: self.note.numbers(),
             enterer: self.enterer,
             house: self.house,
         }
+    }
+
+    /// Ends the slip without a posting, and hands out its numbers.
+    pub fn withdraw(mut self) -> Entered
+        ensures value { result ≡ entered_of self }
+    {
+        self.spent = true;
+        self.entered()
     }
 }

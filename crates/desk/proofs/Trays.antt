@@ -1,0 +1,85 @@
+-- Slips that wait, as the definitions see them.
+use Rattle.std.proofs.Common.{◌≡◌, ℕ, suc, ◌+◌, ◌<◌, ◌≤◌, Bool, true, false, not, cond, List, [], ◌∷◌, length, get_or, Some, None, ltb, Option, refl, sym, ap, ◌∙◌, inl, inr, arith}
+use Rattle.std.specs.Str.{bytes_eq}
+use Rattle.std.specs.List.{position_or_len, remove}
+use Rattle.std.proofs.lemmas.Bool.{cases_Bool, false≢true, ltb-true, ltb-false}
+use Rattle.std.specs.Option.{is_some, unwrap_or}
+use Rattle.monitor.specs.Held.{entered_of}
+use Rattle.desk.specs.declared.tray.Waiting.{Waiting}
+use Rattle.desk.specs.Serving.{ticket_of, tickets_of, waiting, without}
+
+-- what a place that was looked for tells
+module _ (p n : ℕ) (r : Option ℕ) (e : r ≡ cond (ltb p n) (Some p) None) where
+  pub not_there : r ≡ None → n ≤ p
+  not_there h =
+      elim (cases_Bool (ltb p n)) [
+        | inl y ↦ absurd (false≢true (ap is_some (sym h ∙ e ∙ ap (λ b. cond b (Some p) None) y)))
+        | inr y ↦ ltb-false p n y
+      ]
+
+  pub there : (i : ℕ) → r ≡ Some i → (i ≡ p) × (p < n)
+  there i h =
+      elim (cases_Bool (ltb p n)) [
+        | inl y ↦ (ap (λ o. unwrap_or o 0) (sym h ∙ e ∙ ap (λ b. cond b (Some p) None) y), ltb-true p n y)
+        | inr y ↦ absurd (false≢true (sym (ap is_some (sym h ∙ e ∙ ap (λ b. cond b (Some p) None) y))))
+      ]
+
+module _ (name : List ℕ) where
+  -- the slip waits under the name
+  abbrev pub bears : Waiting → Bool
+  bears w = bytes_eq w.name.now name
+
+  at_first : (w : Waiting) (ws : List Waiting) → bears w ≡ true → position_or_len bears (w ∷ ws) ≡ 0
+  at_first w ws e = ap (λ b. cond (not b) (1 + position_or_len bears ws) 0) e
+
+  at_later : (w : Waiting) (ws : List Waiting) → bears w ≡ false → position_or_len bears (w ∷ ws) ≡ 1 + position_or_len bears ws
+  at_later w ws e = ap (λ b. cond (not b) (1 + position_or_len bears ws) 0) e
+
+  -- the first that waits under it, and the rest of the tray, by the test at the front
+  front_waits : (w : Waiting) (ws : List Waiting) (b : Bool) → bears w ≡ b → waiting (tickets_of (w ∷ ws)) name ≡ cond b (Some (entered_of w.slip)) (waiting (tickets_of ws) name)
+  front_waits w ws b e = ap (λ z. cond z (Some (entered_of w.slip)) (waiting (tickets_of ws) name)) e
+
+  front_goes : (w : Waiting) (ws : List Waiting) (b : Bool) → bears w ≡ b → without (tickets_of (w ∷ ws)) name ≡ cond b (tickets_of ws) (ticket_of w ∷ without (tickets_of ws) name)
+  front_goes w ws b e = ap (λ z. cond z (tickets_of ws) (ticket_of w ∷ without (tickets_of ws) name)) e
+
+  -- none waits under it
+  pub none_waits : (ws : List Waiting) → length ws ≤ position_or_len bears ws → waiting (tickets_of ws) name ≡ None
+  none_waits [] l = refl
+  none_waits (w ∷ ws) l =
+      elim (cases_Bool (bears w)) [
+        | inl e ↦ absurd (omega (arith, l, at_first w ws e))
+        | inr e ↦ front_waits w ws false e ∙ none_waits ws (omega (arith, l, at_later w ws e))
+      ]
+
+  pub none_goes : (ws : List Waiting) → length ws ≤ position_or_len bears ws → without (tickets_of ws) name ≡ tickets_of ws
+  none_goes [] l = refl
+  none_goes (w ∷ ws) l =
+      elim (cases_Bool (bears w)) [
+        | inl e ↦ absurd (omega (arith, l, at_first w ws e))
+        | inr e ↦ front_goes w ws false e ∙ ap (λ z. ticket_of w ∷ z) (none_goes ws (omega (arith, l, at_later w ws e)))
+      ]
+
+  -- the one at the first place does
+  abbrev pub place : List Waiting → ℕ
+  place ws = position_or_len bears ws
+
+  pub first_waits : (ws : List Waiting) (d : Waiting) → place ws < length ws → waiting (tickets_of ws) name ≡ Some (entered_of (get_or ws (place ws) d).slip)
+  first_waits [] d l = absurd (omega arith)
+  first_waits (w ∷ ws) d l =
+      elim (cases_Bool (bears w)) [
+        | inl e ↦ front_waits w ws true e ∙ ap (λ z. Some (entered_of (get_or (w ∷ ws) z d).slip)) (sym (at_first w ws e))
+        | inr e ↦ (
+            let next : suc (place ws) ≡ place (w ∷ ws) = omega (arith, at_later w ws e) in
+            front_waits w ws false e ∙ first_waits ws d (omega (arith, l, next)) ∙ ap (λ z. Some (entered_of (get_or (w ∷ ws) z d).slip)) next)
+      ]
+
+  -- and goes
+  pub first_goes : (ws : List Waiting) → place ws < length ws → without (tickets_of ws) name ≡ tickets_of (remove ws (place ws))
+  first_goes [] l = absurd (omega arith)
+  first_goes (w ∷ ws) l =
+      elim (cases_Bool (bears w)) [
+        | inl e ↦ front_goes w ws true e ∙ ap (λ z. tickets_of (remove (w ∷ ws) z)) (sym (at_first w ws e))
+        | inr e ↦ (
+            let next : suc (place ws) ≡ place (w ∷ ws) = omega (arith, at_later w ws e) in
+            front_goes w ws false e ∙ ap (λ z. ticket_of w ∷ z) (first_goes ws (omega (arith, l, next))) ∙ ap (λ z. tickets_of (remove (w ∷ ws) z)) next)
+      ]

@@ -1,0 +1,3 @@
+use Rattle.std.proofs.Common.{◌≡◌}
+use Rattle.desk.proofs.Moving.{moved, enters, countersigns, withdraws, countersigns_none, withdraws_none}
+use Rattle.desk.proofs.answering.withdraw.Goals as goal
