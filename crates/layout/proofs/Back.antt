@@ -97,7 +97,7 @@ same_head h a b p q =
     ap (λ (z : ℕ). record { house = z; kind = h.kind; count = b }) p ∙ ap (λ (z : ℕ). record { house = h.house; kind = h.kind; count = z }) q
 
 -- a head's fields are read back from its form
-fields_back : (h : Head) (c : List ℕ) → HeadForm h c → fields_of_head c ≡ h
+pub fields_back : (h : Head) (c : List ℕ) → HeadForm h c → fields_of_head c ≡ h
 fields_back h c f =
     subst (λ (z : List ℕ). fields_of_head z ≡ h) f.form
     (let p = four_sum h.house f.house_fits in let q = four_sum h.count f.count_fits in same_head h _ _ p q)
