@@ -7,14 +7,16 @@ use Rattle.refusals.specs.declared.step_place.StepPlace.{StepPlace}
 use Rattle.refusals.specs.Refused.{refused}
 use Rattle.books.specs.Meaning.{Meaning, has_procedure}
 use Rattle.books.proofs.Accepted.{passed, same_ok}
-use Rattle.rights.specs.Covers.{Asked, covered, uncovered, free, is_free}
+use Rattle.rights.specs.Covers.{covered, uncovered, free, is_free}
+use Rattle.rights.specs.declared.row.Asked.{Asked}
 use Rattle.rights.specs.declared.row.Role.TheVariants.{Enter, Countersign}
 use Rattle.rights.specs.declared.row.Row.{Row}
+use Rattle.records.specs.declared.record.Posting.{Posting}
 use Rattle.carrying.specs.Standing.{Standing, with_codes, with_row, step_on}
 use Rattle.carrying.specs.Carried.{unless, if_valid, after_step, posted}
 use Rattle.carrying.specs.Rows.{checked_row, if_room, filled, certified, struck}
 use Rattle.image.proofs.Accepting.{accepted_then}
-use Rattle.desk.specs.Law.{Entitled}
+use Rattle.desk.specs.Law.{Entitled, TwoPeople}
 
 -- an answer that is no refusal came through a test that refuses when it holds
 refused_if : {X : Type 0} (t : Bool) (e : Refusal) (r : Result X Refusal) (x : X) → cond t (Err e) r ≡ Ok x → (t ≡ false) × (r ≡ Ok x)
@@ -34,17 +36,19 @@ both_covered rows q a b h = tested (covered rows q a) (covered rows q b) refl re
   tested true false p r h = absurd (let z : ◌≡◌ {A = ℕ} 0 1 = cc in omega arith)
   tested false t p r h = absurd (let z : ◌≡◌ {A = ℕ} 0 1 = cc in omega arith)
 
+-- a posting that is carried out on what stands
+abbrev pub post : Meaning → ℕ → Standing → Posting → Result Standing Refusal
+post m room s p = posted m room s p.enterer p.countersigner p.procedure p.a p.b p.amount
+
 -- a posting that was carried out
-pub record Posted (m : Meaning) (room : ℕ) (s : Standing) (enterer countersigner p a b n : ℕ) (t : Standing) : Type 0 where
-  pub different : enterer ≢ countersigner
-  pub enters : Entitled s.rows (record { user = enterer; procedure = p; role = Enter }) a b
-  pub countersigns : Entitled s.rows (record { user = countersigner; procedure = p; role = Countersign }) a b
+pub record Posted (m : Meaning) (room : ℕ) (s : Standing) (p : Posting) (t : Standing) : Type 0 where
+  pub people : TwoPeople s.rows p
   pub had_room : s.count < room
   pub x : ℕ
   pub y : ℕ
-  pub stepped : step_on m s p a b n ≡ Ok (x, y)
+  pub stepped : step_on m s p.procedure p.a p.b p.amount ≡ Ok (x, y)
   pub valid : m.valid t.items ≡ true
-  pub is : t ≡ with_codes s a b x y
+  pub is : t ≡ with_codes s p.a p.b x y
 
 stepped_to :
     (m : Meaning) (s : Standing) (a b : ℕ) (r : Result (ℕ × ℕ) StepPlace) (t : Standing) → after_step m s a b r ≡ Ok t
@@ -55,17 +59,21 @@ stepped_to m s a b (Ok xy) t h =
     (xy.0, xy.1, refl, ap (λ (z : Standing). m.valid z.items) (sym same) ∙ p.0, sym same)
 stepped_to m s a b (Err e) t h = absurd (let z : ◌≡◌ {A = ℕ} 0 1 = cc in omega arith)
 
-pub posted_tells : (m : Meaning) (room : ℕ) (s : Standing) (e c p a b n : ℕ) (t : Standing) → posted m room s e c p a b n ≡ Ok t → Posted m room s e c p a b n t
-posted_tells m room s e c p a b n t h =
-    let h1 = refused_if (eqb c e) _ _ t h in
-    let h2 = covered_unless _ (uncovered s.rows (record { user = e; procedure = p; role = Enter }) a b) _ t h1.1 in
-    let h3 = covered_unless _ (uncovered s.rows (record { user = c; procedure = p; role = Countersign }) a b) _ t h2.1 in
-    let h4 = passed (ltb s.count room) (after_step m s a b (step_on m s p a b n)) _ t h3.1 in
-    let h5 = stepped_to m s a b (step_on m s p a b n) t h4.1 in
+pub posted_tells : (m : Meaning) (room : ℕ) (s : Standing) (p : Posting) (t : Standing) → post m room s p ≡ Ok t → Posted m room s p t
+posted_tells m room s p t h =
+    let enters : Asked = record { user = p.enterer; procedure = p.procedure; role = Enter } in
+    let countersigns : Asked = record { user = p.countersigner; procedure = p.procedure; role = Countersign } in
+    let h1 = refused_if (eqb p.countersigner p.enterer) _ _ t h in
+    let h2 = covered_unless _ (uncovered s.rows enters p.a p.b) _ t h1.1 in
+    let h3 = covered_unless _ (uncovered s.rows countersigns p.a p.b) _ t h2.1 in
+    let h4 = passed (ltb s.count room) (after_step m s p.a p.b (step_on m s p.procedure p.a p.b p.amount)) _ t h3.1 in
+    let h5 = stepped_to m s p.a p.b (step_on m s p.procedure p.a p.b p.amount) t h4.1 in
     record {
-      different = λ q. eqb-false c e h1.0 (sym q);
-      enters = both_covered s.rows (record { user = e; procedure = p; role = Enter }) a b h2.0;
-      countersigns = both_covered s.rows (record { user = c; procedure = p; role = Countersign }) a b h3.0;
+      people = record {
+        different = λ q. eqb-false p.countersigner p.enterer h1.0 (sym q);
+        enters = both_covered s.rows enters p.a p.b h2.0;
+        countersigns = both_covered s.rows countersigns p.a p.b h3.0;
+      };
       had_room = ltb-true s.count room h4.0;
       x = h5.0;
       y = h5.1;

@@ -4,7 +4,8 @@ use Rattle.refusals.specs.declared.power_place.PowerPlace.TheVariants.{Starting}
 use Rattle.refusals.specs.declared.refusal.Refusal.{Refusal}
 use Rattle.refusals.specs.Refused.{lost_at}
 use Rattle.books.specs.Meaning.{Meaning}
-use Rattle.rights.specs.Covers.{Asked, covered, free}
+use Rattle.rights.specs.Covers.{covered, free}
+use Rattle.rights.specs.declared.row.Asked.{Asked}
 use Rattle.rights.specs.declared.row.Role.TheVariants.{Enter, Countersign}
 use Rattle.rights.specs.declared.row.Row.{Row}
 use Rattle.records.specs.declared.record.Posting.{Posting as PostingRecord}
