@@ -10,16 +10,16 @@ use Rattle.books.specs.Meaning.{Meaning, has_procedure, amount_ok, StepTests, St
 use Rattle.notes.specs.Notes.{noted}
 use Rattle.rights.specs.Covers.{free}
 use Rattle.rights.specs.declared.row.Row.{Row}
+use Rattle.records.specs.declared.record.Posting.{Posting as PostingRecord}
 use Rattle.records.specs.declared.record.Record.{Record}
 use Rattle.records.specs.declared.record.Record.TheVariants.{Posting, Certification, Strike}
 use Rattle.layout.specs.Rounds.{CodesFit, RowsFit}
 use Rattle.carrying.specs.Standing.{Standing, opened, with_codes, with_row, step_on, stepped, effect}
-use Rattle.carrying.specs.Carried.{posted, carried, carried_all}
-use Rattle.carrying.specs.Rows.{certified, struck}
+use Rattle.carrying.specs.Carried.{carried, carried_all}
 use Rattle.image.proofs.Accepting.{accepted_then}
 use Rattle.desk.specs.Law.{rows_after, EachByTwo, TwoPeople}
 use Rattle.desk.specs.Tally.{Books, made_to}
-use Rattle.desk.proofs.Carrying.{Posted, posted_tells, RowSet, certified_tells, struck_tells}
+use Rattle.desk.proofs.Carrying.{Posted, post, posted_tells, RowSet, certified_tells, struck_tells}
 
 -- 32 free rows
 abbrev pub free_rows : List Row
@@ -42,8 +42,8 @@ pub record Good (m : Meaning) (most : ℕ) (t : Books) : Type 0 where
 
 -- the records' numbers are those of a note, or fit their row
 abbrev pub Typed : Record → Type 0
-Typed (Posting enterer countersigner p a b n) = (a < 64) × (b < 64) × (a ≢ b) × (n < 2 ^ 64)
-Typed (Certification user p role k mask) = (k < 32) × (mask < 2 ^ 64)
+Typed (Posting p) = (p.a < 64) × (p.b < 64) × (p.a ≢ p.b) × (p.amount < 2 ^ 64)
+Typed (Certification c) = (c.row < 32) × (c.mask < 2 ^ 64)
 Typed (Strike k) = k < 32
 
 -- one record more, and one more test
@@ -63,8 +63,8 @@ carried_push m most (y ∷ xs) x s = onward (carried m most s y) (carried_push m
 
 rows_push : (xs : List Record) (x : Record) (rows : List Row) → rows_after rows (xs ++ (x ∷ [])) ≡ rows_after (rows_after rows xs) (x ∷ [])
 rows_push [] x rows = refl
-rows_push (Posting e c p a b n ∷ xs) x rows = rows_push xs x rows
-rows_push (Certification u p r k w ∷ xs) x rows = rows_push xs x _
+rows_push (Posting p ∷ xs) x rows = rows_push xs x rows
+rows_push (Certification c ∷ xs) x rows = rows_push xs x _
 rows_push (Strike k ∷ xs) x rows = rows_push xs x _
 
 -- where a record stands among others and one more
@@ -93,31 +93,19 @@ split_last (y ∷ xs) x (b ∷ before) p after e =
     let w = among_later y xs x before p after (split_last xs x before p after t.1) in
     subst (λ z. Among (y ∷ xs) x (z ∷ before) p after) t.0 w
 
--- what is not a posting has no two people to name
-abbrev pub NoPosting : Record → Type 0
-NoPosting (Posting e c p a b n) = ⊥
-NoPosting (Certification u p r k w) = Unit {0}
-NoPosting (Strike k) = Unit {0}
-
-is_posting : (x : Record) (e c p a b n : ℕ) → x ≡ Posting e c p a b n → NoPosting x → ⊥
-is_posting x e c p a b n q h = subst NoPosting q h
-
--- one record more, of which two people stand behind it if it is a posting
-by_two_more :
-    (xs : List Record) (x : Record) → EachByTwo xs
-    → ((e c p a b n : ℕ) → x ≡ Posting e c p a b n → TwoPeople (rows_after free_rows xs) e c p a b)
-    → EachByTwo (xs ++ (x ∷ []))
-by_two_more xs x f g before after e c p a b n q =
-    elim (split_last xs x before (Posting e c p a b n) after q) [
-      | inl w ↦ subst (λ z. TwoPeople (rows_after free_rows z) e c p a b) w.1 (g e c p a b n w.2)
-      | inr w ↦ f before w.0 e c p a b n w.1
-    ]
-
--- a posting's two people
+-- two people stand behind a record if it is a posting
 abbrev TwoIf : List Row → Record → Type 0
-TwoIf rows (Posting e c p a b n) = TwoPeople rows e c p a b
-TwoIf rows (Certification u p r k w) = Unit {0}
+TwoIf rows (Posting p) = TwoPeople rows p
+TwoIf rows (Certification c) = Unit {0}
 TwoIf rows (Strike k) = Unit {0}
+
+-- one record more, with two people behind it if it is a posting
+by_two_more : (xs : List Record) (x : Record) → EachByTwo xs → TwoIf (rows_after free_rows xs) x → EachByTwo (xs ++ (x ∷ []))
+by_two_more xs x f g before after p q =
+    elim (split_last xs x before (Posting p) after q) [
+      | inl w ↦ subst (λ z. TwoPeople (rows_after free_rows z) p) w.1 (subst (TwoIf (rows_after free_rows xs)) w.2 g)
+      | inr w ↦ f before w.0 p w.1
+    ]
 
 fit_set : (xs : List ℕ) (k x : ℕ) → CodesFit xs → x < 2 ^ 64 → CodesFit (set xs k x)
 fit_set xs k x f h i =
@@ -142,7 +130,7 @@ module _ (m : Meaning) (most : ℕ) (t : Books) (g : Good m most t) where
 
   -- a row filled or freed
   row_more :
-      (x : Record) (k : ℕ) (w : Row) (s : Standing) → NoPosting x → carried m most t.standing x ≡ Ok s → RowSet most t.standing k w s → w.mask < 2 ^ 64
+      (x : Record) (k : ℕ) (w : Row) (s : Standing) → TwoIf (rows_after free_rows t.records) x → carried m most t.standing x ≡ Ok s → RowSet most t.standing k w s → w.mask < 2 ^ 64
       → ((rows : List Row) → rows_after rows (x ∷ []) ≡ set rows k w)
       → Good m most (made_to t x (Some s))
   row_more x k w s other c r fit rows =
@@ -163,33 +151,32 @@ module _ (m : Meaning) (most : ℕ) (t : Books) (g : Good m most t) where
           | inr n ↦ subst (λ (v : Row). v.mask < 2 ^ 64) (sym (get_or-set_other t.standing.rows k i w free n)) (g.rows_fit i)
         ]);
         rows_given = ap (λ (z : Standing). z.rows) is ∙ ap (λ z. set z k w) g.rows_given ∙ sym (rows_push t.records x free_rows ∙ rows (rows_after free_rows t.records));
-        by_two = by_two_more t.records x g.by_two (λ e c p a b n q. absurd (is_posting x e c p a b n q other));
+        by_two = by_two_more t.records x g.by_two other;
       }
 
   -- two codes replaced
   posting_more :
-      StepGivesCodes m → (e c p a b n : ℕ) (s : Standing) → a < 64 → b < 64
-      → carried m most t.standing (Posting e c p a b n) ≡ Ok s → Posted m most t.standing e c p a b n s
-      → Good m most (made_to t (Posting e c p a b n) (Some s))
-  posting_more gives e c p a b n s la lb k f =
-      let is : s ≡ with_codes t.standing a b f.x f.y = f.is in
-      let x : Record = Posting e c p a b n in
-      let fit = gives p a b (get_or t.standing.items a 0) (get_or t.standing.items b 0) n f.x f.y (g.items_fit a) (g.items_fit b) f.stepped in
-      let in_two : TwoPeople t.standing.rows e c p a b = record { different = f.different; enters = f.enters; countersigns = f.countersigns } in
+      StepGivesCodes m → (p : PostingRecord) (s : Standing) → carried m most t.standing (Posting p) ≡ Ok s → Posted m most t.standing p s
+      → Good m most (made_to t (Posting p) (Some s))
+  posting_more gives p s k f =
+      let is : s ≡ with_codes t.standing p.a p.b f.x f.y = f.is in
+      let x : Record = Posting p in
+      let once : List ℕ = set t.standing.items p.a f.x in
+      let fit = gives p.procedure p.a p.b (get_or t.standing.items p.a 0) (get_or t.standing.items p.b 0) p.amount f.x f.y (g.items_fit p.a) (g.items_fit p.b) f.stepped in
       record {
         valid_opening = g.valid_opening;
         valid = f.valid;
         carried_out = carried_more x s k;
         every = ap (λ (z : Standing). z.count) is ∙ ap (λ k. k + 1) g.every ∙ sym (longer x);
         few = omega (arith, longer x, g.every, f.had_room);
-        long_items = ap (λ (z : Standing). length z.items) is ∙ length-set (set t.standing.items a f.x) b f.y ∙ length-set t.standing.items a f.x ∙ g.long_items;
-        items_fit = subst (λ (z : Standing). CodesFit z.items) (sym is) (fit_set (set t.standing.items a f.x) b f.y (fit_set t.standing.items a f.x g.items_fit fit.0) fit.1);
+        long_items = ap (λ (z : Standing). length z.items) is ∙ length-set once p.b f.y ∙ length-set t.standing.items p.a f.x ∙ g.long_items;
+        items_fit = subst (λ (z : Standing). CodesFit z.items) (sym is) (fit_set once p.b f.y (fit_set t.standing.items p.a f.x g.items_fit fit.0) fit.1);
         long_opening = g.long_opening;
         opening_fit = g.opening_fit;
         long_rows = ap (λ (z : Standing). length z.rows) is ∙ g.long_rows;
         rows_fit = subst (λ (z : Standing). RowsFit z.rows) (sym is) g.rows_fit;
         rows_given = ap (λ (z : Standing). z.rows) is ∙ g.rows_given ∙ sym (rows_push t.records x free_rows);
-        by_two = by_two_more t.records x g.by_two (λ e' c' p' a' b' n' q. subst (λ (z : Record). TwoIf (rows_after free_rows t.records) z) q (subst (λ z. TwoPeople z e c p a b) g.rows_given in_two));
+        by_two = by_two_more t.records x g.by_two (subst (λ z. TwoPeople z p) g.rows_given f.people);
       }
 
 -- a record that was carried out has its effect, and leaves a good tally
@@ -199,20 +186,20 @@ pub record Made (m : Meaning) (most : ℕ) (t : Books) (x : Record) (s : Standin
   pub good : Good m most (made_to t x (Some s))
 
 pub good_made : (m : Meaning) (most : ℕ) → StepGivesCodes m → (t : Books) (x : Record) (s : Standing) → Good m most t → Typed x → carried m most t.standing x ≡ Ok s → Made m most t x s
-good_made m most gives t (Posting e c p a b n) s g y k =
-    let f = posted_tells m most t.standing e c p a b n s (accepted_then (noted m p a b n) (λ _. posted m most t.standing e c p a b n) s k).2 in
+good_made m most gives t (Posting p) s g y k =
+    let f = posted_tells m most t.standing p s (accepted_then (noted m p.procedure p.a p.b p.amount) (λ _. post m most t.standing p) s k).2 in
     record {
-      effects = ap (stepped t.standing a b) f.stepped ∙ ap Some (sym f.is);
+      effects = ap (stepped t.standing p.a p.b) f.stepped ∙ ap Some (sym f.is);
       had_room = f.had_room;
-      good = posting_more m most t g gives e c p a b n s y.0 y.1 k f;
+      good = posting_more m most t g gives p s k f;
     }
-good_made m most gives t (Certification u p r k w) s g y c =
-    let v : Row = record { user = u; procedure = p; role = r; mask = w } in
-    let f = certified_tells m most t.standing k v s c in
+good_made m most gives t (Certification c) s g y k =
+    let v : Row = record { user = c.user; procedure = c.procedure; role = c.role; mask = c.mask } in
+    let f = certified_tells m most t.standing c.row v s k in
     record {
       effects = ap Some (sym f.is);
       had_room = f.had_room;
-      good = row_more m most t g (Certification u p r k w) k v s tt c f y.1 (λ rows. refl);
+      good = row_more m most t g (Certification c) c.row v s tt k f y.1 (λ rows. refl);
     }
 good_made m most gives t (Strike k) s g y c =
     let f = struck_tells most t.standing k s c in
@@ -243,8 +230,8 @@ noted_ok m p a b n x y i j tests la lb ne h =
 
 -- a posting of a note is carried out
 pub carried_posting :
-    (m : Meaning) (most : ℕ) (s u : Standing) (e c p a b n : ℕ) → StepTests m → a < 64 → b < 64 → (a ≢ b)
-    → posted m most s e c p a b n ≡ Ok u → carried m most s (Posting e c p a b n) ≡ Ok u
-carried_posting m most s u e c p a b n tests la lb ne k =
-    let f = posted_tells m most s e c p a b n u k in
-    ap (λ z. and_then z (λ _. posted m most s e c p a b n)) (noted_ok m p a b n f.x f.y _ _ tests la lb ne f.stepped) ∙ k
+    (m : Meaning) (most : ℕ) (s u : Standing) (p : PostingRecord) → StepTests m → p.a < 64 → p.b < 64 → (p.a ≢ p.b)
+    → post m most s p ≡ Ok u → carried m most s (Posting p) ≡ Ok u
+carried_posting m most s u p tests la lb ne k =
+    let f = posted_tells m most s p u k in
+    ap (λ z. and_then z (λ _. post m most s p)) (noted_ok m p.procedure p.a p.b p.amount f.x f.y _ _ tests la lb ne f.stepped) ∙ k
