@@ -12,25 +12,27 @@ use Rattle.journals.specs.Outcomes.{changed}
 use Rattle.journals.specs.Redo.{home}
 use Rattle.rights.specs.Covers.{free}
 use Rattle.rights.specs.declared.row.Row.{Row}
+use Rattle.records.specs.declared.record.Posting.{Posting as PostingRecord}
 use Rattle.records.specs.declared.record.Record.{Record}
 use Rattle.records.specs.declared.record.Record.TheVariants.{Posting, Certification, Strike}
 use Rattle.records.specs.Form.{Fits}
 use Rattle.layout.specs.Head.{fields_of_head}
 use Rattle.carrying.specs.Standing.{Standing, with_codes, with_row, step_on, stepped, effect}
-use Rattle.carrying.specs.Carried.{posted, carried}
-use Rattle.carrying.specs.Rows.{certified, struck}
+use Rattle.carrying.specs.Carried.{carried}
+use Rattle.carrying.specs.Rows.{asked_row, certified, struck}
+use Rattle.carrying.specs.declared.row_draft.RowDraft.{RowDraft}
 use Rattle.image.specs.Home.{at, count_on, house_on, word_on}
 use Rattle.image.specs.Lawful.{lawful_size, room}
 use Rattle.image.proofs.Accepting.{accepted_then}
 use Rattle.monitor.specs.declared.entered.Entered.{Entered}
 use Rattle.monitor.specs.declared.stage.Stage.TheVariants.{Open}
 use Rattle.monitor.specs.Asking.{known}
-use Rattle.monitor.specs.Calls.{IsNote, own_slip, posting, countersigned, certifying, striking}
+use Rattle.monitor.specs.Calls.{IsNote, own_slip, posting, countersigned, certification, certifying, striking}
 use Rattle.monitor.specs.Changing.{change_for, wanted, standing_on}
 use Rattle.monitor.specs.Machine.{machine}
 use Rattle.monitor.proofs.Steadying.{size_low, size_high}
 use Rattle.desk.specs.Tally.{Books, made_to}
-use Rattle.desk.proofs.Carrying.{certified_tells, struck_tells}
+use Rattle.desk.proofs.Carrying.{post, certified_tells, struck_tells}
 use Rattle.desk.proofs.Good.{Good, Made, Typed, carried_posting}
 use Rattle.desk.proofs.Keeping.{Working, Wants}
 use Rattle.desk.proofs.Refusing.{Clean, clean_ok, clean_refused, clean_cond, clean_then, clean_posted, clean_certified, clean_struck, clean_wanted}
@@ -65,6 +67,9 @@ module _ (m : Meaning) (b : Books) (d : Disk) (fits : lawful_size (size d) ≡ t
   pub countersigned_wants : StepTests m → (user : ℕ) (word : List ℕ) (slip : Entered) → IsNote slip.numbers → Wants m b d (posting slip user) (countersigned m (machine Open d) user word slip)
   countersigned_wants tests user word slip note =
       let n = slip.numbers in
+      let x : PostingRecord = record { enterer = slip.enterer; countersigner = user; procedure = n.procedure; a = n.a; b = n.b; amount = n.amount } in
+      let la : n.a < 64 = omega (arith, note.a_within) in
+      let lb : n.b < 64 = omega (arith, note.b_within) in
       record {
         clean =
           clean_then (own_slip m (house_on h) slip) _ (clean_own m (house_on h) slip)
@@ -73,25 +78,24 @@ module _ (m : Meaning) (b : Books) (d : Disk) (fits : lawful_size (size d) ≡ t
         carried_out = λ p e. (
           let one = accepted_then (own_slip m (house_on h) slip) _ p e in
           let two = accepted_then (known h user word) _ p one.2 in
-          let w = wanted_is h (posting slip user) (posted m (room (size d)) (standing_on h) slip.enterer user n.procedure n.a n.b n.amount) p two.2 in
-          let here = sym (ap (λ z. posted m (room (size d)) z slip.enterer user n.procedure n.a n.b n.amount) stands) ∙ w.1 in
-          (w.0, carried_posting m (room (size d)) b.standing w.0 slip.enterer user n.procedure n.a n.b n.amount tests (omega (arith, note.a_within)) (omega (arith, note.b_within)) note.apart here, w.2,
-            (omega (arith, note.a_within), omega (arith, note.b_within), note.apart, omega (arith, note.amount_within))));
+          let w = wanted_is h (posting slip user) (post m (room (size d)) (standing_on h) x) p two.2 in
+          let here = sym (ap (λ z. post m (room (size d)) z x) stands) ∙ w.1 in
+          (w.0, carried_posting m (room (size d)) b.standing w.0 x tests la lb note.apart here, w.2, (la, lb, note.apart, omega (arith, note.amount_within))));
         fits = omega (arith, note.amount_within);
       }
 
   pub certifying_wants :
-      (word : List ℕ) (row user p role mask : ℕ) → mask < 2 ^ 64
-      → Wants m b d (Certification user p role row mask) (certifying m (machine Open d) word row user p role mask)
-  certifying_wants word row user p role mask small =
-      let w : Row = record { user = user; procedure = p; role = role; mask = mask } in
+      (word : List ℕ) (asked : RowDraft) → asked.mask < 2 ^ 64 → Wants m b d (certification asked) (certifying m (machine Open d) word asked)
+  certifying_wants word asked small =
+      let row : ℕ = asked.row in
+      let w : Row = asked_row asked in
       record {
         clean =
           clean_then (known h 0 word) _ (clean_known h 0 word)
-          (λ _. clean_wanted h (Certification user p role row mask) _ (clean_certified m (room (size d)) (standing_on h) row w));
+          (λ _. clean_wanted h (certification asked) _ (clean_certified m (room (size d)) (standing_on h) row w));
         carried_out = λ q e. (
           let one = accepted_then (known h 0 word) _ q e in
-          let v = wanted_is h (Certification user p role row mask) (certified m (room (size d)) (standing_on h) row w) q one.2 in
+          let v = wanted_is h (certification asked) (certified m (room (size d)) (standing_on h) row w) q one.2 in
           let done = sym (ap (λ z. certified m (room (size d)) z row w) stands) ∙ v.1 in
           let low : row < 32 = omega (arith, (certified_tells m (room (size d)) b.standing row w v.0 done).row_low) in
           (v.0, done, v.2, (low, small)));
@@ -123,17 +127,17 @@ module _ (m : Meaning) (b : Books) (d : Disk) (fits : lawful_size (size d) ≡ t
   pub shows_after :
       (x : Record) (u : Standing) → Typed x → Fits x → Made m (room (size d)) b x u
       → (i : List (List ℕ)) → i ≡ changed (change_for (fields_of_head (at h 7)) x u) d → Shown m (made_to b x (Some u)) i
-  shows_after (Posting e c p a o n) u y f q i j =
-      let s = stepped_is b.standing a o (step_on m b.standing p a o n) u q.effects in
-      let moves = posting_moves m (room (size d)) b d g k.shows wide q.had_room (Posting e c p a o n) a o s.0 s.1 u y.0 y.1 (ap (λ (z : Standing). z.items) s.2) (ap (λ (z : Standing). z.rows) s.2) refl in
-      subst (λ z. Shown m (made_to b (Posting e c p a o n) (Some u)) z) (sym j)
-      (shows_next m (room (size d)) b h _ g k.shows small_room (Posting e c p a o n) u f q.had_room moves)
-  shows_after (Certification v p r l w) u y f q i j =
-      let row : Row = record { user = v; procedure = p; role = r; mask = w } in
-      let is : u ≡ with_row b.standing l row = sym (some_same _ _ q.effects) in
-      let moves = row_moves m (room (size d)) b d g k.shows wide q.had_room (Certification v p r l w) l row u y.0 (ap (λ (z : Standing). z.items) is) (ap (λ (z : Standing). z.rows) is) refl in
-      subst (λ z. Shown m (made_to b (Certification v p r l w) (Some u)) z) (sym j)
-      (shows_next m (room (size d)) b h _ g k.shows small_room (Certification v p r l w) u f q.had_room moves)
+  shows_after (Posting p) u y f q i j =
+      let s = stepped_is b.standing p.a p.b (step_on m b.standing p.procedure p.a p.b p.amount) u q.effects in
+      let moves = posting_moves m (room (size d)) b d g k.shows wide q.had_room (Posting p) p.a p.b s.0 s.1 u y.0 y.1 (ap (λ (z : Standing). z.items) s.2) (ap (λ (z : Standing). z.rows) s.2) refl in
+      subst (λ z. Shown m (made_to b (Posting p) (Some u)) z) (sym j)
+      (shows_next m (room (size d)) b h _ g k.shows small_room (Posting p) u f q.had_room moves)
+  shows_after (Certification c) u y f q i j =
+      let row : Row = record { user = c.user; procedure = c.procedure; role = c.role; mask = c.mask } in
+      let is : u ≡ with_row b.standing c.row row = sym (some_same _ _ q.effects) in
+      let moves = row_moves m (room (size d)) b d g k.shows wide q.had_room (Certification c) c.row row u y.0 (ap (λ (z : Standing). z.items) is) (ap (λ (z : Standing). z.rows) is) refl in
+      subst (λ z. Shown m (made_to b (Certification c) (Some u)) z) (sym j)
+      (shows_next m (room (size d)) b h _ g k.shows small_room (Certification c) u f q.had_room moves)
   shows_after (Strike l) u y f q i j =
       let is : u ≡ with_row b.standing l free = sym (some_same _ _ q.effects) in
       let moves = row_moves m (room (size d)) b d g k.shows wide q.had_room (Strike l) l free u y (ap (λ (z : Standing). z.items) is) (ap (λ (z : Standing). z.rows) is) refl in
