@@ -91,7 +91,7 @@ began_good m most n house roll opening f fit =
       long_rows = refl;
       rows_fit = free_fit;
       rows_given = refl;
-      by_two = λ before after e c p a b k q. no_posting before _ after q;
+      by_two = λ before after p q. no_posting before _ after q;
     } where
   no_posting : {X A : Type 0} (before : List X) (x : X) (after : List X) → [] ≡ before ++ (x ∷ after) → A
   no_posting [] x after q = absurd (let z : ◌≡◌ {A = ℕ} 0 1 = cc in omega arith)
