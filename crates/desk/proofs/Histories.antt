@@ -10,11 +10,12 @@ use Rattle.drives.specs.Disk.{Disk, size}
 use Rattle.journals.specs.Redo.{home, finished}
 use Rattle.journals.specs.Standing.{Choice, Stands}
 use Rattle.records.specs.declared.record.Record.{Record}
-use Rattle.records.specs.declared.record.Record.TheVariants.{Certification, Strike}
+use Rattle.records.specs.declared.record.Record.TheVariants.{Strike}
+use Rattle.carrying.specs.declared.row_draft.RowDraft.{RowDraft}
 use Rattle.image.specs.Lawful.{lawful_size, room}
 use Rattle.monitor.specs.declared.stage.Stage.{Stage}
 use Rattle.monitor.specs.declared.stage.Stage.TheVariants.{Shut, Open, Dark}
-use Rattle.monitor.specs.Calls.{Changes, posting, countersigned, certifying, striking}
+use Rattle.monitor.specs.Calls.{Changes, posting, countersigned, certification, certifying, striking}
 use Rattle.monitor.specs.Machine.{Machine, machine, home_of, room_of, Refuses}
 use Rattle.desk.specs.Events.{Event, Formatted, Attached, NoteEntered, Countersigned, Certified, Struck, ItemSeen, RecordSeen, Happens, History, begun, then, again, TakenOver}
 use Rattle.desk.specs.Law.{Agrees, Known, TookEffect, Owed, AllOwed, Law}
@@ -56,14 +57,14 @@ module _ (m : Meaning) (tests : StepTests m) (gives : StepGivesCodes m) where
       (countersigned_wants m t.books d i.fits i.good i.at.working tests user word slip c.note) c.changes
 
   certified_keeps :
-      (t : Tally) (st : Stage) (d : Disk) (word : List ℕ) (row user p role mask : ℕ) (r : Result ℕ Refusal) (u : Machine)
-      → Inv m t (machine st d) → Happens m (machine st d) (Certified word row user p role mask r) u
-      → Inv m (by_answer m t (Certification user p role row mask) r) u × TookEffect m t.books (Certification user p role row mask) r
-  certified_keeps t Shut d word row user p role mask r u i c = refused_keeps m t (Certification user p role row mask) (machine Shut d) u _ r refl c.changes i
-  certified_keeps t Dark d word row user p role mask r u i c = refused_keeps m t (Certification user p role row mask) (machine Dark d) u _ r refl c.changes i
-  certified_keeps t Open d word row user p role mask r u i c =
-      open_keeps m gives t d (Certification user p role row mask) (certifying m (machine Open d) word row user p role mask) r u i
-      (certifying_wants m t.books d i.fits i.good i.at.working word row user p role mask c.fits) c.changes
+      (t : Tally) (st : Stage) (d : Disk) (word : List ℕ) (asked : RowDraft) (r : Result ℕ Refusal) (u : Machine)
+      → Inv m t (machine st d) → Happens m (machine st d) (Certified word asked r) u
+      → Inv m (by_answer m t (certification asked) r) u × TookEffect m t.books (certification asked) r
+  certified_keeps t Shut d word asked r u i c = refused_keeps m t (certification asked) (machine Shut d) u _ r refl c.changes i
+  certified_keeps t Dark d word asked r u i c = refused_keeps m t (certification asked) (machine Dark d) u _ r refl c.changes i
+  certified_keeps t Open d word asked r u i c =
+      open_keeps m gives t d (certification asked) (certifying m (machine Open d) word asked) r u i
+      (certifying_wants m t.books d i.fits i.good i.at.working word asked c.fits) c.changes
 
   struck_keeps :
       (t : Tally) (st : Stage) (d : Disk) (word : List ℕ) (row : ℕ) (r : Result ℕ Refusal) (u : Machine)
@@ -81,7 +82,7 @@ module _ (m : Meaning) (tests : StepTests m) (gives : StepGivesCodes m) where
   event_keeps None s u (Attached r) i h = (tt, tt)
   event_keeps None s u (NoteEntered user word note r) i h = (tt, tt)
   event_keeps None s u (Countersigned user word slip r) i h = (tt, tt)
-  event_keeps None s u (Certified word row user p role mask r) i h = (tt, tt)
+  event_keeps None s u (Certified word asked r) i h = (tt, tt)
   event_keeps None s u (Struck word row r) i h = (tt, tt)
   event_keeps None s u (ItemSeen item r) i h = (tt, tt)
   event_keeps None s u (RecordSeen number r) i h = (tt, tt)
@@ -89,7 +90,7 @@ module _ (m : Meaning) (tests : StepTests m) (gives : StepGivesCodes m) where
   event_keeps (Some t) s u (Attached r) i h = attach_keeps m t s i r u h
   event_keeps (Some t) s u (NoteEntered user word note r) i h = (subst (λ (z : Machine). Inv m t z) (sym h.1) i, tt)
   event_keeps (Some t) s u (Countersigned user word slip r) i h = countersigned_keeps t s.stage s.disk user word slip r u i h
-  event_keeps (Some t) s u (Certified word row user p role mask r) i h = certified_keeps t s.stage s.disk word row user p role mask r u i h
+  event_keeps (Some t) s u (Certified word asked r) i h = certified_keeps t s.stage s.disk word asked r u i h
   event_keeps (Some t) s u (Struck word row r) i h = struck_keeps t s.stage s.disk word row r u i h
   event_keeps (Some t) s u (ItemSeen item r) i h = (subst (λ (z : Machine). Inv m t z) (sym h.1) i, tt)
   event_keeps (Some t) s u (RecordSeen number r) i h = (subst (λ (z : Machine). Inv m t z) (sym h.1) i, tt)
