@@ -1,35 +1,30 @@
 -- Attach, whatever power does: it is accepted or loses power, and the tally knows which change stands.
-use Rattle.std.proofs.Common.{◌≡◌, ℕ, ◌+◌, ◌-◌, ◌≤◌, true, cond, eqb, ◌⊎◌, List, [], ◌∷◌, ◌++◌, length, Some, None, Ok, Err, Option, Result, refl, sym, ap, ◌∙◌, subst, inl, inr, arith}
-use Rattle.std.proofs.lemmas.Bool.{both_ways, cond-true, cond-false, eq-eqb, ne_eqb}
+use Rattle.std.proofs.Common.{◌≡◌, ℕ, ◌+◌, eqb, List, [], ◌∷◌, ◌++◌, length, Some, None, Ok, Err, Option, Result, refl, sym, ap, ◌∙◌, subst, inl, inr, arith}
+use Rattle.std.proofs.lemmas.Bool.{cond-true, cond-false, eq-eqb, ne_eqb}
 use Rattle.std.proofs.Math.ListN.{length-append}
 use Rattle.refusals.specs.declared.power_place.PowerPlace.TheVariants.{Starting}
 use Rattle.refusals.specs.declared.refusal.Refusal.{Refusal}
 use Rattle.refusals.specs.Refused.{lost_at}
 use Rattle.books.specs.Meaning.{Meaning}
-use Rattle.changes.specs.Commit.{Lawful}
-use Rattle.drives.specs.Disk.{Disk, present, size}
+use Rattle.drives.specs.Disk.{Disk, size}
 use Rattle.journals.specs.Redo.{finished, home}
 use Rattle.journals.specs.Standing.{Stands, Finishable}
 use Rattle.journals.proofs.Reading.{not_ok}
 use Rattle.records.specs.declared.record.Record.{Record}
 use Rattle.layout.specs.declared.head.Head.{Head}
-use Rattle.layout.specs.Head.{fields_of_head}
 use Rattle.layout.proofs.Back.{fields_back}
-use Rattle.carrying.specs.Standing.{Standing}
 use Rattle.image.specs.Home.{at}
 use Rattle.image.specs.Lawful.{lawful_size, room, LawfulHome, LawfulImage}
-use Rattle.image.specs.Verdict.{verdict}
 use Rattle.image.proofs.Accepting.{accepts_exactly_lawful}
-use Rattle.judging.specs.Inspects.{Inspects, PoweredOn}
-use Rattle.monitor.specs.declared.stage.Stage.{Stage}
+use Rattle.judging.specs.Inspects.{PoweredOn}
 use Rattle.monitor.specs.declared.stage.Stage.TheVariants.{Open, Dark}
 use Rattle.monitor.specs.Machine.{Machine}
 use Rattle.monitor.specs.Starting.{Attaches, stage_after}
-use Rattle.monitor.proofs.Inspected.{Accepted, accepted}
+use Rattle.monitor.proofs.Inspected.{accepted}
 use Rattle.desk.specs.Law.{OnlyForPower}
-use Rattle.desk.specs.Tally.{Books, Tally, certain, made, made_to, settled, attached}
-use Rattle.desk.proofs.Good.{Good, Made}
-use Rattle.desk.proofs.Keeping.{MayShow, Waiting, Working, Inv, inv_at, waits}
+use Rattle.desk.specs.Tally.{Books, Tally, certain, made_to, settled, attached}
+use Rattle.desk.proofs.Good.{Good}
+use Rattle.desk.proofs.Keeping.{MayShow, Waiting, Inv, inv_at, waits}
 use Rattle.desk.proofs.Showing.{Shown, shows_lawful}
 
 -- home blocks that may stand are lawful
@@ -64,7 +59,7 @@ decided m most b (Some x) h n l g (inr (u, q, s)) e =
     let count : n ≡ length (b.records ++ (x ∷ [])) = e ∙ counted_as m (made_to b x (Some u)) h most l s in
     let one_more : n ≡ length b.records + 1 = count ∙ length-append b.records (x ∷ []) in
     let is : settled m b n (Some x) ≡ certain (made_to b x (Some u)) =
-      cond-true (eqb n (length b.records + 1)) _ _ (eq-eqb n (length b.records + 1) one_more) ∙ ap (λ z. certain (made_to b x z)) q.effects in
+    cond-true (eqb n (length b.records + 1)) _ _ (eq-eqb n (length b.records + 1) one_more) ∙ ap (λ z. certain (made_to b x z)) q.effects in
     subst (λ (t : Tally). Settled m most t h) (sym is) (record { sure = refl; good = q.good; shows = s })
 
 module _ (m : Meaning) (t : Tally) (s : Machine) (i : Inv m t s) where
@@ -90,10 +85,11 @@ module _ (m : Meaning) (t : Tally) (s : Machine) (i : Inv m t s) where
       → ((h : List (List ℕ)) → Stands u.disk h → MayShow m (room (size s.disk)) t.books t.doubt h)
       → Inv m t u × (e ≡ lost_at Starting)
   dark_keeps e u q st same fin shows =
-      let dark : u.stage ≡ Dark = st ∙ ap (λ (z : Refusal). stage_after (Err z)) q in
-      (inv_at m t s.disk u Dark i.fits same i.good dark
-        (record { finishable = fin; shows = λ h w. subst (λ n. MayShow m (room n) t.books t.doubt h) (sym same) (shows h w) }),
-       q)
+      let dark : u.stage ≡ Dark = st ∙ ap (λ (z : Refusal). stage_after (Err z)) q in (
+        inv_at m t s.disk u Dark i.fits same i.good dark
+            (record { finishable = fin; shows = λ h w. subst (λ n. MayShow m (room n) t.books t.doubt h) (sym same) (shows h w) }),
+        q,
+      )
 
   refused_keeps : (e : Refusal) (u : Machine) → Attaches m s (Err e) u → Inv m t u × (e ≡ lost_at Starting)
   refused_keeps e u a =
@@ -102,31 +98,32 @@ module _ (m : Meaning) (t : Tally) (s : Machine) (i : Inv m t s) where
             (λ h w. here.shows h (lost.adds_nothing.stands h w))
         | inr on ↦ powered_keeps e u a.stage on
       ] where
-    same_err : (x y : Refusal) → ◌≡◌ {A = Result ℕ Refusal} (Err x) (Err y) → x ≡ y
-    same_err x y q = cc
-    powered_keeps : (e : Refusal) (u : Machine) → u.stage ≡ stage_after (Err e) → PoweredOn m s.disk (Err e) u.disk → Inv m t u × (e ≡ lost_at Starting)
-    powered_keeps e u st on =
-        let p : Disk = on.left in
-        let h : List (List ℕ) = home (finished p.blocks) in
-        elim on.outcome [
-          | inl lost ↦ (
-              let o = lost.cut.cut on.powered.settled in
-              let shows = here.shows h (on.stood.stood lost.lawful) in
-              dark_keeps e u (same_err e _ lost.answer) st (o.same_size ∙ on.powered.same_size) o.finishable
-              (λ g w. subst (λ z. MayShow m (room (size s.disk)) t.books t.doubt z) (sym (o.stands g w)) shows))
-          | inr judged ↦ elim judged [
-            | inl unlawful ↦ absurd (on.stood.refusable unlawful.unlawful here.finishable)
-            | inr kept ↦ (
-                let shows = here.shows h (on.stood.stood kept.lawful) in
-                let lawful = may_lawful m (room (size s.disk)) t.books t.doubt h i.good shows in
-                let image : LawfulImage m p.blocks = record {
-                  lawful_length = ap lawful_size on.powered.same_size ∙ i.fits;
-                  lawful_commit = kept.lawful;
-                  lawful_home = subst (λ k. LawfulHome m (room k) h) (sym on.powered.same_size) lawful;
-                } in
-                not_ok _ e (sym (accepts_exactly_lawful.accepts m p.blocks image) ∙ sym kept.answer))
-          ]
-        ]
+        same_err : (x y : Refusal) → ◌≡◌ {A = Result ℕ Refusal} (Err x) (Err y) → x ≡ y
+        same_err x y q = cc
+
+        powered_keeps : (e : Refusal) (u : Machine) → u.stage ≡ stage_after (Err e) → PoweredOn m s.disk (Err e) u.disk → Inv m t u × (e ≡ lost_at Starting)
+        powered_keeps e u st on =
+            let p : Disk = on.left in
+            let h : List (List ℕ) = home (finished p.blocks) in
+            elim on.outcome [
+              | inl lost ↦ (
+                  let o = lost.cut.cut on.powered.settled in
+                  let shows = here.shows h (on.stood.stood lost.lawful) in
+                  dark_keeps e u (same_err e _ lost.answer) st (o.same_size ∙ on.powered.same_size) o.finishable
+                  (λ g w. subst (λ z. MayShow m (room (size s.disk)) t.books t.doubt z) (sym (o.stands g w)) shows))
+              | inr judged ↦ elim judged [
+                | inl unlawful ↦ absurd (on.stood.refusable unlawful.unlawful here.finishable)
+                | inr kept ↦ (
+                    let shows = here.shows h (on.stood.stood kept.lawful) in
+                    let lawful = may_lawful m (room (size s.disk)) t.books t.doubt h i.good shows in
+                    let image : LawfulImage m p.blocks = record {
+                      lawful_length = ap lawful_size on.powered.same_size ∙ i.fits;
+                      lawful_commit = kept.lawful;
+                      lawful_home = subst (λ k. LawfulHome m (room k) h) (sym on.powered.same_size) lawful;
+                    } in
+                    not_ok _ e (sym (accepts_exactly_lawful.accepts m p.blocks image) ∙ sym kept.answer))
+              ]
+            ]
 
   pub attach_keeps : (r : Result ℕ Refusal) (u : Machine) → Attaches m s r u → Inv m (attached m t r) u × OnlyForPower r
   attach_keeps (Ok n) u a = (accepted_keeps n u a, tt)

@@ -1,5 +1,5 @@
 -- The 64 codes and the 32 rows in eight blocks each: they are read back, and a block depends on its own part alone.
-use Rattle.std.proofs.Common.{◌≡◌, ℕ, ◌+◌, ◌-◌, ◌*◌, ◌/◌, ◌%◌, ◌^◌, ◌<◌, ◌≤◌, ◌⊎◌, List, [], map, length, get_or, take, drop, set, sym, refl, ap, ◌∙◌, subst, inl, inr, arith}
+use Rattle.std.proofs.Common.{◌≡◌, ℕ, ◌+◌, ◌-◌, ◌*◌, ◌/◌, ◌%◌, ◌^◌, ◌<◌, ◌≤◌, ◌⊎◌, List, [], map, length, get_or, take, drop, set, sym, ap, ◌∙◌, subst, inl, inr, arith}
 use Rattle.std.specs.List.{range_with_len, flat_map}
 use Rattle.std.proofs.lemmas.List.{length-drop, length-take, get_or-drop, get_or-take, drop-set-lt, drop-set-add, take-set-le, get_or_past, ext_get_or}
 use Rattle.std.proofs.lemmas.List.FromFn.{get_or-map-range_with_len, length-map-range_with_len}
@@ -11,7 +11,7 @@ use Rattle.layout.specs.Codes.{codes_form, codes_of}
 use Rattle.layout.specs.Rows.{rows_form, rows_of}
 use Rattle.layout.specs.Rounds.{CodesFit, RowsFit}
 use Rattle.layout.proofs.Back.{codes_read, rows_read}
-use Rattle.image.specs.Home.{blocks_at, items_on, opening_on, rows_on, blocks_of_codes, blocks_of_rows}
+use Rattle.image.specs.Home.{blocks_of_codes, blocks_of_rows}
 use Rattle.image.proofs.Places.{eight_codes, four_rows}
 
 -- where an index stands: in which part, and where in it
@@ -41,13 +41,13 @@ module _ {X : Type 0} (form : List X → List ℕ) (of : List ℕ → List X) (n
       let all : length (flat_map of (forms xs)) ≡ 8 * n = length-parts of n each [] d (forms xs) ∙ ap (λ k. k * n) eight in
       ext_get_or d (flat_map of (forms xs)) xs (all ∙ sym l)
       (λ i h. let s = split i (omega (arith, all)) in
-          ap (λ k. get_or (flat_map of (forms xs)) k d) s.whole
-          ∙ get_or-parts of n each [] d (forms xs) s.part s.rest (omega (arith, eight, s.part_low)) s.rest_low
-          ∙ ap (λ (z : List ℕ). get_or (of z) s.rest d) (form_at xs s.part s.part_low)
-          ∙ ap (λ (z : List X). get_or z s.rest d) (reads s.part s.part_low)
-          ∙ get_or-take n (drop (n * s.part) xs) s.rest d s.rest_low
-          ∙ get_or-drop (n * s.part) xs s.rest d
-          ∙ ap (λ k. get_or xs k d) s.again)
+      ap (λ k. get_or (flat_map of (forms xs)) k d) s.whole
+      ∙ get_or-parts of n each [] d (forms xs) s.part s.rest (omega (arith, eight, s.part_low)) s.rest_low
+      ∙ ap (λ (z : List ℕ). get_or (of z) s.rest d) (form_at xs s.part s.part_low)
+      ∙ ap (λ (z : List X). get_or z s.rest d) (reads s.part s.part_low)
+      ∙ get_or-take n (drop (n * s.part) xs) s.rest d s.rest_low
+      ∙ get_or-drop (n * s.part) xs s.rest d
+      ∙ ap (λ k. get_or xs k d) s.again)
 
   -- an element of another part
   part_same : (xs : List X) (i j : ℕ) (x : X) → (i < n * j) ⊎ (n * j + n ≤ i) → part (set xs i x) j ≡ part xs j
@@ -83,15 +83,15 @@ pub codes_back : (codes : List ℕ) → length codes ≡ 64 → CodesFit codes �
 codes_back codes l fit =
     back codes_form codes_of 8 0 eight_codes codes l split_eight
     (λ j h. codes_read (take 8 (drop (8 * j) codes))
-        (part_long 8 codes j (omega arith))
-        (λ i. part_all (λ c. c < 2 ^ 64) 8 codes j i 0 (fit (8 * j + i)) (omega arith)))
+    (part_long 8 codes j (omega arith))
+    (λ i. part_all (λ c. c < 2 ^ 64) 8 codes j i 0 (fit (8 * j + i)) (omega arith)))
 
 pub rows_back : (rows : List Row) → length rows ≡ 32 → RowsFit rows → flat_map rows_of (blocks_of_rows rows) ≡ rows
 rows_back rows l fit =
     back rows_form rows_of 4 free four_rows rows l split_four
     (λ j h. rows_read (take 4 (drop (4 * j) rows))
-        (part_long 4 rows j (omega arith))
-        (λ i. part_all (λ w. w.mask < 2 ^ 64) 4 rows j i free (fit (4 * j + i)) (omega arith)))
+    (part_long 4 rows j (omega arith))
+    (λ i. part_all (λ w. w.mask < 2 ^ 64) 4 rows j i free (fit (4 * j + i)) (omega arith)))
 
 -- a block of codes, and of rows, where an element of another block was replaced
 pub code_elsewhere : (codes : List ℕ) (i j x : ℕ) → j < 8 → (i / 8 ≡ j → ⊥) → get_or (blocks_of_codes (set codes i x)) j [] ≡ get_or (blocks_of_codes codes) j []

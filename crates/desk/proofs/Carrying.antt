@@ -1,10 +1,9 @@
 -- What a record that was carried out tells: its tests passed, there was room, and its effect is what stands after it.
-use Rattle.std.proofs.Common.{◌≡◌, ◌≢◌, ℕ, ◌+◌, ◌<◌, ◌≤◌, Bool, true, false, cond, not, ◌&&◌, ◌||◌, eqb, leb, ltb, List, get_or, Some, None, Ok, Err, Option, Result, refl, sym, ap, ◌∙◌, subst, arith}
-use Rattle.std.proofs.lemmas.Bool.{and_parts, leb-true, ltb-true, eqb-true, eqb-false, cases_Bool}
+use Rattle.std.proofs.Common.{◌≡◌, ℕ, ◌<◌, ◌≤◌, Bool, true, false, cond, ◌&&◌, ◌||◌, eqb, leb, ltb, List, get_or, Some, None, Ok, Err, Option, Result, refl, sym, ap, ◌∙◌, arith}
+use Rattle.std.proofs.lemmas.Bool.{leb-true, ltb-true, eqb-false}
 use Rattle.refusals.specs.declared.reasons.Reason.{Reason}
 use Rattle.refusals.specs.declared.refusal.Refusal.{Refusal}
 use Rattle.refusals.specs.declared.step_place.StepPlace.{StepPlace}
-use Rattle.refusals.specs.Refused.{refused}
 use Rattle.books.specs.Meaning.{Meaning, has_procedure}
 use Rattle.books.proofs.Accepted.{passed, same_ok}
 use Rattle.rights.specs.Covers.{covered, uncovered, free, is_free}
@@ -13,7 +12,7 @@ use Rattle.rights.specs.declared.row.Role.TheVariants.{Enter, Countersign}
 use Rattle.rights.specs.declared.row.Row.{Row}
 use Rattle.records.specs.declared.record.Posting.{Posting}
 use Rattle.carrying.specs.Standing.{Standing, with_codes, with_row, step_on}
-use Rattle.carrying.specs.Carried.{unless, if_valid, after_step, posted}
+use Rattle.carrying.specs.Carried.{unless, after_step, posted}
 use Rattle.carrying.specs.Rows.{checked_row, if_room, filled, certified, struck}
 use Rattle.image.proofs.Accepting.{accepted_then}
 use Rattle.desk.specs.Law.{Entitled, TwoPeople}

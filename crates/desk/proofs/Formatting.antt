@@ -1,30 +1,23 @@
 -- Format: accepted, the books begin; refused, they are as they were.
-use Rattle.std.proofs.Common.{◌≡◌, ◌≢◌, ℕ, ◌+◌, ◌^◌, ◌<◌, ◌≤◌, true, cond, ◌&&◌, eqb, leb, ltb, ◌⊎◌, List, [], ◌∷◌, ◌++◌, length, get_or, drop, replicate, Some, None, Ok, Err, Option, Result, refl, sym, ap, ◌∙◌, subst, inl, inr, arith}
+use Rattle.std.proofs.Common.{◌≡◌, ℕ, ◌^◌, ◌<◌, ◌≤◌, true, ◌&&◌, eqb, leb, ltb, List, [], ◌∷◌, ◌++◌, length, get_or, drop, Some, None, Ok, Err, Option, Result, refl, sym, ap, ◌∙◌, subst, inl, inr, arith}
 use Rattle.std.proofs.lemmas.Bool.{and_parts, leb-true, ltb-true, eqb-true, cond-false, ne_eqb, cases_lt}
-use Rattle.std.proofs.lemmas.List.{get_or-replicate, get_or_past, length-replicate}
-use Rattle.refusals.specs.declared.format_place.FormatPlace.TheVariants as at_format
+use Rattle.std.proofs.lemmas.List.{get_or-replicate, get_or_past}
 use Rattle.refusals.specs.declared.reasons.Reason.TheVariants as reason
 use Rattle.refusals.specs.declared.refusal.Refusal.{Refusal}
 use Rattle.refusals.specs.Numbers.{number}
-use Rattle.refusals.specs.Refused.{refused, lost_at}
+use Rattle.refusals.specs.Refused.{refused}
 use Rattle.books.specs.Meaning.{Meaning}
 use Rattle.books.proofs.Accepted.{passed}
-use Rattle.drives.specs.Disk.{Disk, size}
-use Rattle.journals.specs.Laying.{LaidDown}
+use Rattle.drives.specs.Disk.{size}
 use Rattle.journals.specs.Redo.{home}
 use Rattle.rights.specs.Covers.{free}
 use Rattle.rights.specs.declared.row.Row.{Row}
-use Rattle.layout.specs.declared.head.Head.{Head}
-use Rattle.layout.specs.Head.{head_form, HeadForm}
 use Rattle.layout.specs.Rounds.{CodesFit}
-use Rattle.carrying.specs.Standing.{opened}
-use Rattle.image.specs.Home.{at, blocks_at, blocks_of_codes, blocks_of_rows}
 use Rattle.image.specs.Lawful.{lawful_size, room}
-use Rattle.monitor.specs.declared.stage.Stage.TheVariants.{Open, Dark}
-use Rattle.monitor.specs.Machine.{Machine, machine, Refuses}
-use Rattle.monitor.specs.Starting.{formattable, first_home, Formats, Starts, FormatDone, FormatLost}
-use Rattle.desk.specs.Law.{rows_after}
-use Rattle.desk.specs.Tally.{Books, Tally, began, certain, formatted}
+use Rattle.monitor.specs.declared.stage.Stage.TheVariants.{Open}
+use Rattle.monitor.specs.Machine.{Machine}
+use Rattle.monitor.specs.Starting.{formattable, first_home, Formats, Starts, FormatDone}
+use Rattle.desk.specs.Tally.{Tally, began, certain, formatted}
 use Rattle.desk.proofs.Good.{Good, free_rows}
 use Rattle.desk.proofs.Keeping.{Inv, inv_at}
 use Rattle.desk.proofs.Refusing.{NotLost, Clean, clean_ok, clean_refused, clean_cond}
@@ -65,8 +58,8 @@ clean_format m n house roll opening =
     (clean_cond (m.valid opening) _ _ (clean_ok tt) (clean_refused reason.InvalidOpening 0 (λ e. omega arith)))
     (clean_refused reason.BadSize n (λ e. omega arith)))
     (bad _)) (bad _)) (bad _) where
-  bad : (place : ℕ) → Clean {X = Unit {0}} (refused reason.BadFormat place)
-  bad place = clean_refused reason.BadFormat place (λ e. omega arith)
+      bad : (place : ℕ) → Clean {X = Unit {0}} (refused reason.BadFormat place)
+      bad place = clean_refused reason.BadFormat place (λ e. omega arith)
 
 free_fit : (i : ℕ) → (get_or free_rows i free).mask < 2 ^ 64
 free_fit i =
@@ -93,9 +86,9 @@ began_good m most n house roll opening f fit =
       rows_given = refl;
       by_two = λ before after p q. no_posting before _ after q;
     } where
-  no_posting : {X A : Type 0} (before : List X) (x : X) (after : List X) → [] ≡ before ++ (x ∷ after) → A
-  no_posting [] x after q = absurd (let z : ◌≡◌ {A = ℕ} 0 1 = cc in omega arith)
-  no_posting (y ∷ ys) x after q = absurd (let z : ◌≡◌ {A = ℕ} 0 1 = cc in omega arith)
+      no_posting : {X A : Type 0} (before : List X) (x : X) (after : List X) → [] ≡ before ++ (x ∷ after) → A
+      no_posting [] x after q = absurd (let z : ◌≡◌ {A = ℕ} 0 1 = cc in omega arith)
+      no_posting (y ∷ ys) x after q = absurd (let z : ◌≡◌ {A = ℕ} 0 1 = cc in omega arith)
 
 began_shown : (m : Meaning) (n house : ℕ) (roll opening : List ℕ) (rest : List (List ℕ)) → Formattable m n house roll opening → Shown m (began opening) (first_home m house roll opening ++ rest)
 began_shown m n house roll opening rest f =

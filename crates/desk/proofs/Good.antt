@@ -1,5 +1,5 @@
 -- Books that the book and the drive can stand by, and that they stay so when a record is carried out.
-use Rattle.std.proofs.Common.{◌≡◌, ◌≢◌, ℕ, ◌+◌, ◌^◌, ◌<◌, ◌≤◌, Bool, true, false, cond, eqb, leb, ◌⊎◌, List, [], ◌∷◌, ◌++◌, length, get_or, set, replicate, Some, None, Ok, Err, Option, Result, refl, sym, ap, ◌∙◌, subst, inl, inr, arith}
+use Rattle.std.proofs.Common.{◌≡◌, ◌≢◌, ℕ, ◌+◌, ◌^◌, ◌<◌, ◌≤◌, true, eqb, leb, ◌⊎◌, List, [], ◌∷◌, ◌++◌, length, get_or, set, replicate, Some, Ok, Err, Result, refl, sym, ap, ◌∙◌, subst, inl, inr, arith}
 use Rattle.std.proofs.lemmas.List.{length-set, get_or-set_same, get_or-set_other, get_or_past}
 use Rattle.std.proofs.lemmas.Bool.{cases_Bool, cases_eq, cases_lt, cond-true, cond-false, le-leb, ne_eqb}
 use Rattle.std.proofs.Math.ListN.{length-append}
@@ -14,7 +14,7 @@ use Rattle.records.specs.declared.record.Posting.{Posting as PostingRecord}
 use Rattle.records.specs.declared.record.Record.{Record}
 use Rattle.records.specs.declared.record.Record.TheVariants.{Posting, Certification, Strike}
 use Rattle.layout.specs.Rounds.{CodesFit, RowsFit}
-use Rattle.carrying.specs.Standing.{Standing, opened, with_codes, with_row, step_on, stepped, effect}
+use Rattle.carrying.specs.Standing.{Standing, opened, with_codes, with_row, stepped, effect}
 use Rattle.carrying.specs.Carried.{carried, carried_all}
 use Rattle.image.proofs.Accepting.{accepted_then}
 use Rattle.desk.specs.Law.{rows_after, EachByTwo, TwoPeople}

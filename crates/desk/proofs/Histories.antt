@@ -1,30 +1,25 @@
 -- The law of every history.
-use Rattle.std.proofs.Common.{◌≡◌, ℕ, true, List, [], ◌∷◌, Some, None, Ok, Err, Option, Result, refl, sym, ap, ◌∙◌, subst, inl, inr}
-use Rattle.refusals.specs.declared.power_place.PowerPlace.TheVariants as power
-use Rattle.refusals.specs.declared.reasons.Reason.TheVariants as reason
+use Rattle.std.proofs.Common.{◌≡◌, ℕ, List, Some, None, Err, Option, Result, refl, sym, ap, ◌∙◌, subst}
 use Rattle.refusals.specs.declared.refusal.Refusal.{Refusal}
-use Rattle.refusals.specs.Refused.{refused, lost_at}
 use Rattle.books.specs.Meaning.{Meaning, StepTests, StepGivesCodes}
 use Rattle.changes.specs.Plan.{Plan}
-use Rattle.drives.specs.Disk.{Disk, size}
-use Rattle.journals.specs.Redo.{home, finished}
-use Rattle.journals.specs.Standing.{Choice, Stands}
+use Rattle.drives.specs.Disk.{Disk}
+use Rattle.journals.specs.Standing.{Choice}
 use Rattle.records.specs.declared.record.Record.{Record}
 use Rattle.records.specs.declared.record.Record.TheVariants.{Strike}
 use Rattle.carrying.specs.declared.row_draft.RowDraft.{RowDraft}
-use Rattle.image.specs.Lawful.{lawful_size, room}
+use Rattle.image.specs.Lawful.{room}
 use Rattle.monitor.specs.declared.stage.Stage.{Stage}
 use Rattle.monitor.specs.declared.stage.Stage.TheVariants.{Shut, Open, Dark}
 use Rattle.monitor.specs.Calls.{Changes, posting, countersigned, certification, certifying, striking}
 use Rattle.monitor.specs.Machine.{Machine, machine, home_of, room_of, Refuses}
 use Rattle.desk.specs.Events.{Event, Formatted, Attached, NoteEntered, Countersigned, Certified, Struck, ItemSeen, RecordSeen, Happens, History, begun, then, again, TakenOver}
 use Rattle.desk.specs.Law.{Agrees, Known, TookEffect, Owed, AllOwed, Law}
-use Rattle.desk.specs.Tally.{Books, Tally, certain, by_answer, feed, tally}
+use Rattle.desk.specs.Tally.{Tally, certain, by_answer, feed, tally}
 use Rattle.desk.proofs.Attaching.{attach_keeps}
 use Rattle.desk.proofs.Formatting.{InvIf, format_keeps}
-use Rattle.desk.proofs.Good.{Typed}
-use Rattle.desk.proofs.Keeping.{Inv, At, AtWork, MayShow, Waiting, Wants, waits, inv_at, wants_keeps}
-use Rattle.desk.proofs.Showing.{Shown, shows_items, shows_rows, shows_records, shows_opening}
+use Rattle.desk.proofs.Keeping.{Inv, At, AtWork, MayShow, Wants, waits, inv_at, wants_keeps}
+use Rattle.desk.proofs.Showing.{shows_items, shows_rows, shows_records, shows_opening}
 use Rattle.desk.proofs.Wanting.{countersigned_wants, certifying_wants, striking_wants, shows_after}
 
 -- a call that was refused, with a refusal that is nothing to the tally
@@ -32,9 +27,10 @@ refused_keeps :
     (m : Meaning) (t : Tally) (x : Record) (s u : Machine) (e : Refusal) (r : Result ℕ Refusal) → by_answer m t x (Err e) ≡ t
     → Refuses s e r u → Inv m t s → Inv m (by_answer m t x r) u × TookEffect m t.books x r
 refused_keeps m t x s u e r nothing f i =
-    let same : by_answer m t x r ≡ t = ap (by_answer m t x) f.answer ∙ nothing in
-    (subst (λ (z : Machine). Inv m (by_answer m t x r) z) (sym f.same) (subst (λ (z : Tally). Inv m z s) (sym same) i),
-     subst (λ (z : Result ℕ Refusal). TookEffect m t.books x z) (sym f.answer) tt)
+    let same : by_answer m t x r ≡ t = ap (by_answer m t x) f.answer ∙ nothing in (
+      subst (λ (z : Machine). Inv m (by_answer m t x r) z) (sym f.same) (subst (λ (z : Tally). Inv m z s) (sym same) i),
+      subst (λ (z : Result ℕ Refusal). TookEffect m t.books x z) (sym f.answer) tt,
+    )
 
 -- a change that is wanted, on an open monitor
 open_keeps :

@@ -1,9 +1,8 @@
 -- What holds of every machine that a history leads to, against the tally: when open, its drive shows the books; when shut or
 -- dark, whatever may stand on its drive shows the books, or the books with the change in doubt.
-use Rattle.std.proofs.Common.{◌≡◌, ℕ, ◌+◌, ◌-◌, ◌^◌, ◌<◌, ◌≤◌, true, false, cond, eqb, ◌⊎◌, List, ◌∷◌, length, Some, None, Ok, Err, Option, Result, refl, sym, ap, ◌∙◌, subst, inl, inr, arith}
+use Rattle.std.proofs.Common.{◌≡◌, ℕ, ◌+◌, true, eqb, ◌⊎◌, List, Some, None, Ok, Err, Option, Result, refl, sym, ap, ◌∙◌, subst, inl, inr}
 use Rattle.std.specs.Result.{MatchResult}
 use Rattle.std.proofs.lemmas.Bool.{cond-false, ne_eqb}
-use Rattle.refusals.specs.declared.power_place.PowerPlace.TheVariants as power
 use Rattle.refusals.specs.declared.refusal.Refusal.{Refusal}
 use Rattle.refusals.specs.Numbers.{number}
 use Rattle.refusals.specs.Refused.{lost_at}
@@ -12,26 +11,25 @@ use Rattle.changes.specs.Plan.{Plan}
 use Rattle.drives.specs.Disk.{Disk, size}
 use Rattle.journals.specs.declared.place.Place.{Place}
 use Rattle.journals.specs.declared.place.Place.TheVariants as journal
-use Rattle.journals.specs.Outcomes.{changed, Made as MadeOn, CutChange, After}
+use Rattle.journals.specs.Outcomes.{changed, CutChange}
 use Rattle.journals.specs.Redo.{home}
-use Rattle.journals.specs.Standing.{Stands, Finishable, Ready, CutOff}
+use Rattle.journals.specs.Standing.{Stands, Finishable, Ready}
 use Rattle.journals.proofs.Crash.{ends_finishable, ends_stands}
 use Rattle.journals.proofs.Staging.{ready_ends}
 use Rattle.records.specs.declared.record.Record.{Record}
-use Rattle.records.specs.Form.{Fits, encoded}
+use Rattle.records.specs.Form.{Fits}
 use Rattle.layout.specs.Head.{fields_of_head}
-use Rattle.carrying.specs.Standing.{Standing, effect}
+use Rattle.carrying.specs.Standing.{Standing}
 use Rattle.carrying.specs.Carried.{carried}
-use Rattle.image.specs.Home.{at, count_on}
+use Rattle.image.specs.Home.{at}
 use Rattle.image.specs.Lawful.{lawful_size, room}
 use Rattle.monitor.specs.declared.stage.Stage.{Stage}
 use Rattle.monitor.specs.declared.stage.Stage.TheVariants.{Shut, Open, Dark}
 use Rattle.monitor.specs.Calls.{power_place_of, Acknowledged, LostPower, Changes}
-use Rattle.monitor.specs.Changing.{change_for, counted}
-use Rattle.monitor.specs.Machine.{Machine, machine, home_of, room_of, Refuses}
-use Rattle.monitor.proofs.Steadying.{size_high}
+use Rattle.monitor.specs.Changing.{change_for}
+use Rattle.monitor.specs.Machine.{Machine, machine, room_of}
 use Rattle.desk.specs.Law.{TookEffect}
-use Rattle.desk.specs.Tally.{Books, Tally, certain, in_doubt, made, made_to, by_answer, cut_at}
+use Rattle.desk.specs.Tally.{Books, Tally, certain, in_doubt, made, made_to, by_answer}
 use Rattle.desk.proofs.Good.{Good, Made, Typed, good_made}
 use Rattle.desk.proofs.Refusing.{NotLost, Clean}
 use Rattle.desk.proofs.Showing.{Shown, shows_count}
@@ -103,52 +101,53 @@ module _ (m : Meaning) (gives : StepGivesCodes m) (b : Books) (d : Disk) (x : Re
   module _
       (u : Standing) (carries : Made m (room (size d)) b x u)
       (moves : (h : List (List ℕ)) → h ≡ changed (change_for (fields_of_head (at (home d.blocks) 7)) x u) d → Shown m (made_to b x (Some u)) h)
-      where
-    abbrev q : Plan
-    q = change_for (fields_of_head (at (home d.blocks) 7)) x u
+    where
+      abbrev q : Plan
+      q = change_for (fields_of_head (at (home d.blocks) 7)) x u
 
-    made_is : made m b x ≡ made_to b x (Some u)
-    made_is = ap (made_to b x) carries.effects
+      made_is : made m b x ≡ made_to b x (Some u)
+      made_is = ap (made_to b x) carries.effects
 
-    shown_made : (h : List (List ℕ)) → h ≡ changed q d → Shown m (made m b x) h
-    shown_made h e = subst (λ z. Shown m z h) (sym made_is) (moves h e)
+      shown_made : (h : List (List ℕ)) → h ≡ changed q d → Shown m (made m b x) h
+      shown_made h e = subst (λ z. Shown m z h) (sym made_is) (moves h e)
 
-    good_after : Good m (room (size d)) (made m b x)
-    good_after = subst (λ z. Good m (room (size d)) z) (sym made_is) carries.good
+      good_after : Good m (room (size d)) (made m b x)
+      good_after = subst (λ z. Good m (room (size d)) z) (sym made_is) carries.good
 
-    acknowledged : (n : ℕ) (t : Machine) → Acknowledged q (machine Open d) n t → Inv m (by_answer m (certain b) x (Ok n)) t × TookEffect m b x (Ok n)
-    acknowledged n t a =
-        (inv_at m (certain (made m b x)) d t Open fits a.made.same_size good_after a.stage
-          (record { sure = refl; working = record { ready = a.made.ready; shows = shown_made (home t.disk.blocks) a.made.home_now } }),
-        (a.count ∙ ap (λ n. n + 1) (shows_count m (room (size d)) b (home d.blocks) g k.shows), (u, carries.effects)))
+      acknowledged : (n : ℕ) (t : Machine) → Acknowledged q (machine Open d) n t → Inv m (by_answer m (certain b) x (Ok n)) t × TookEffect m b x (Ok n)
+      acknowledged n t a = (
+        inv_at m (certain (made m b x)) d t Open fits a.made.same_size good_after a.stage
+            (record { sure = refl; working = record { ready = a.made.ready; shows = shown_made (home t.disk.blocks) a.made.home_now } }),
+        (a.count ∙ ap (λ n. n + 1) (shows_count m (room (size d)) b (home d.blocks) g k.shows), (u, carries.effects)),
+      )
 
-    -- by the place, what may stand
-    lost_by : (place : Place) (t : Machine) → t.stage ≡ Dark → CutChange place q d t.disk → Inv m (by_answer m (certain b) x (Err (lost_at (power_place_of place)))) t
-    lost_by journal.Staging t s c =
-        let o = c.cut k.ready in
-        inv_at m (certain b) d t Dark fits o.same_size g s
-        (record { finishable = o.finishable; shows = λ h w. subst (λ z. Shown m b z) (sym (o.stands h w)) k.shows })
-    lost_by journal.Committing t s c =
-        let o = c.cut k.ready in
-        inv_at m (in_doubt b x) d t Dark fits o.same_size g s
-        (record {
-          finishable = o.finishable;
-          shows = λ h w. elim (o.stands h w) [
-            | inl e ↦ inl (subst (λ z. Shown m b z) (sym e) k.shows)
-            | inr e ↦ inr (u, subst (λ n. Made m (room n) b x u) (sym o.same_size) carries, moves h e)
-          ];
-        })
-    lost_by journal.Applying t s c =
-        let o = c.cut k.ready in
-        inv_at m (certain (made m b x)) d t Dark fits o.same_size good_after s
-        (record { finishable = o.finishable; shows = λ h w. shown_made h (o.stands h w) })
+      -- by the place, what may stand
+      lost_by : (place : Place) (t : Machine) → t.stage ≡ Dark → CutChange place q d t.disk → Inv m (by_answer m (certain b) x (Err (lost_at (power_place_of place)))) t
+      lost_by journal.Staging t s c =
+          let o = c.cut k.ready in
+          inv_at m (certain b) d t Dark fits o.same_size g s
+          (record { finishable = o.finishable; shows = λ h w. subst (λ z. Shown m b z) (sym (o.stands h w)) k.shows })
+      lost_by journal.Committing t s c =
+          let o = c.cut k.ready in
+          inv_at m (in_doubt b x) d t Dark fits o.same_size g s
+          (record {
+            finishable = o.finishable;
+            shows = λ h w. elim (o.stands h w) [
+              | inl e ↦ inl (subst (λ z. Shown m b z) (sym e) k.shows)
+              | inr e ↦ inr (u, subst (λ n. Made m (room n) b x u) (sym o.same_size) carries, moves h e)
+            ];
+          })
+      lost_by journal.Applying t s c =
+          let o = c.cut k.ready in
+          inv_at m (certain (made m b x)) d t Dark fits o.same_size good_after s
+          (record { finishable = o.finishable; shows = λ h w. shown_made h (o.stands h w) })
 
-    lost : (e : Refusal) (t : Machine) → LostPower q (machine Open d) e t → Inv m (by_answer m (certain b) x (Err e)) t
-    lost e t l = subst (λ (z : Refusal). Inv m (by_answer m (certain b) x (Err z)) t) (sym l.answer) (lost_by l.place t l.stage l.cut)
+      lost : (e : Refusal) (t : Machine) → LostPower q (machine Open d) e t → Inv m (by_answer m (certain b) x (Err e)) t
+      lost e t l = subst (λ (z : Refusal). Inv m (by_answer m (certain b) x (Err z)) t) (sym l.answer) (lost_by l.place t l.stage l.cut)
 
-    changed_keeps : (r : Result ℕ Refusal) (t : Machine) → MatchResult r (λ n. Acknowledged q (machine Open d) n t) (λ e. LostPower q (machine Open d) e t) → Inv m (by_answer m (certain b) x r) t × TookEffect m b x r
-    changed_keeps (Ok n) t a = acknowledged n t a
-    changed_keeps (Err e) t a = (lost e t a, tt)
+      changed_keeps : (r : Result ℕ Refusal) (t : Machine) → MatchResult r (λ n. Acknowledged q (machine Open d) n t) (λ e. LostPower q (machine Open d) e t) → Inv m (by_answer m (certain b) x r) t × TookEffect m b x r
+      changed_keeps (Ok n) t a = acknowledged n t a
+      changed_keeps (Err e) t a = (lost e t a, tt)
 
   -- a call that wants a change, on an open monitor
   pub wants_keeps :
@@ -157,9 +156,10 @@ module _ (m : Meaning) (gives : StepGivesCodes m) (b : Books) (d : Disk) (x : Re
       → Changes w (machine Open d) r t → Inv m (by_answer m (certain b) x r) t × TookEffect m b x r
   wants_keeps (Err e) r t v moves c =
       let same : by_answer m (certain b) x r ≡ certain b = ap (by_answer m (certain b) x) c.answer ∙ not_lost m (certain b) x e (v.clean.clean e refl) in
-      let here : Inv m (certain b) (machine Open d) = record { fits = fits; good = g; at = record { sure = refl; working = k } } in
-      (subst (λ (z : Machine). Inv m (by_answer m (certain b) x r) z) (sym c.same) (subst (λ (z : Tally). Inv m z (machine Open d)) (sym same) here),
-       subst (λ (z : Result ℕ Refusal). TookEffect m b x z) (sym c.answer) tt)
+      let here : Inv m (certain b) (machine Open d) = record { fits = fits; good = g; at = record { sure = refl; working = k } } in (
+        subst (λ (z : Machine). Inv m (by_answer m (certain b) x r) z) (sym c.same) (subst (λ (z : Tally). Inv m z (machine Open d)) (sym same) here),
+        subst (λ (z : Result ℕ Refusal). TookEffect m b x z) (sym c.answer) tt,
+      )
   wants_keeps (Ok p) r t v moves c =
       let done = v.carried_out p refl in
       let carries = good_made m (room (size d)) gives b x done.0 g done.3 done.1 in

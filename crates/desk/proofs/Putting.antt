@@ -1,5 +1,5 @@
 -- What stands at home after a change of the head and some blocks behind it.
-use Rattle.std.proofs.Common.{◌≡◌, ℕ, zero, suc, ◌+◌, ◌-◌, ◌<◌, ◌≤◌, List, [], ◌∷◌, length, get_or, set, sym, refl, ap, ◌∙◌, subst, inl, inr, arith}
+use Rattle.std.proofs.Common.{◌≡◌, ℕ, zero, suc, ◌+◌, ◌-◌, ◌<◌, ◌≤◌, List, [], ◌∷◌, length, get_or, sym, refl, ap, ◌∙◌, inl, inr, arith}
 use Rattle.std.proofs.lemmas.List.{length-set, get_or-set_same, get_or-set_other}
 use Rattle.std.proofs.lemmas.Bool.{cases_eq}
 use Rattle.drives.specs.Disk.{Disk, size}
@@ -73,46 +73,46 @@ module _ (head : List ℕ) (xs : List Put) (d : Disk) where
       (above : (i : ℕ) → i < length xs → 7 < (get_or xs i no_put).0)
       (fits : (i : ℕ) → i < length xs → (get_or xs i no_put).0 < size d)
       (wide : 7 < size d)
-      where
-    counts : plan.count ≡ 1 + length xs
-    counts = with_count xs (of_one 7 head)
+    where
+      counts : plan.count ≡ 1 + length xs
+      counts = with_count xs (of_one 7 head)
 
-    first : number plan 0 ≡ 7
-    first = number_before xs (of_one 7 head) 0 (omega arith)
+      first : number plan 0 ≡ 7
+      first = number_before xs (of_one 7 head) 0 (omega arith)
 
-    behind : (i : ℕ) → i < length xs → number plan (1 + i) ≡ (get_or xs i no_put).0
-    behind i h = number_behind xs (of_one 7 head) i h (omega arith)
+      behind : (i : ℕ) → i < length xs → number plan (1 + i) ≡ (get_or xs i no_put).0
+      behind i h = number_behind xs (of_one 7 head) i h (omega arith)
 
-    -- a number past the head's, by its place
-    at_place : (i : ℕ) → 0 < i → i < plan.count → number plan i ≡ (get_or xs (i - 1) no_put).0
-    at_place i h l =
-        let back : 1 + (i - 1) ≡ i = omega arith in
-        sym (ap (number plan) back) ∙ behind (i - 1) (omega (arith, counts))
+      -- a number past the head's, by its place
+      at_place : (i : ℕ) → 0 < i → i < plan.count → number plan i ≡ (get_or xs (i - 1) no_put).0
+      at_place i h l =
+          let back : 1 + (i - 1) ≡ i = omega arith in
+          sym (ap (number plan) back) ∙ behind (i - 1) (omega (arith, counts))
 
-    rise : Rise plan.count (number plan)
-    rise i j h l =
-        elim (cases_eq i 0) [
-          | inl z ↦ omega (arith, ap (number plan) z, first, at_place j (omega arith) l, above (j - 1) (omega (arith, counts)))
-          | inr n ↦ omega (arith, at_place i (omega arith) (omega arith), at_place j (omega arith) l, rising (i - 1) (j - 1) (omega arith) (omega (arith, counts)))
-        ]
+      rise : Rise plan.count (number plan)
+      rise i j h l =
+          elim (cases_eq i 0) [
+            | inl z ↦ omega (arith, ap (number plan) z, first, at_place j (omega arith) l, above (j - 1) (omega (arith, counts)))
+            | inr n ↦ omega (arith, at_place i (omega arith) (omega arith), at_place j (omega arith) l, rising (i - 1) (j - 1) (omega arith) (omega (arith, counts)))
+          ]
 
-    pub head_at : at after 7 ≡ head
-    head_at =
-        ap (at after) (sym first)
-        ∙ changed_at plan d rise 0 (omega (arith, counts)) (omega (arith, first)) (omega (arith, first))
-        ∙ content_before xs (of_one 7 head) 0 (omega arith)
+      pub head_at : at after 7 ≡ head
+      head_at =
+          ap (at after) (sym first)
+          ∙ changed_at plan d rise 0 (omega (arith, counts)) (omega (arith, first)) (omega (arith, first))
+          ∙ content_before xs (of_one 7 head) 0 (omega arith)
 
-    pub put_at : (i : ℕ) → i < length xs → at after (get_or xs i no_put).0 ≡ (get_or xs i no_put).1
-    put_at i h =
-        ap (at after) (sym (behind i h))
-        ∙ changed_at plan d rise (1 + i) (omega (arith, counts)) (omega (arith, behind i h, above i h)) (omega (arith, behind i h, fits i h))
-        ∙ content_behind xs (of_one 7 head) i h (omega arith)
+      pub put_at : (i : ℕ) → i < length xs → at after (get_or xs i no_put).0 ≡ (get_or xs i no_put).1
+      put_at i h =
+          ap (at after) (sym (behind i h))
+          ∙ changed_at plan d rise (1 + i) (omega (arith, counts)) (omega (arith, behind i h, above i h)) (omega (arith, behind i h, fits i h))
+          ∙ content_behind xs (of_one 7 head) i h (omega arith)
 
-    -- every other block holds what it held
-    pub other_at : (k : ℕ) → 7 < k → ((i : ℕ) → i < length xs → (get_or xs i no_put).0 ≡ k → ⊥) → at after k ≡ at (home d.blocks) k
-    other_at k low none =
-        changed_outside plan d k (omega arith)
-        (λ i h e. elim (cases_eq i 0) [
-          | inl z ↦ omega (arith, ap (number plan) z, first)
-          | inr n ↦ none (i - 1) (omega (arith, counts)) (sym (at_place i (omega arith) h) ∙ e)
-        ])
+      -- every other block holds what it held
+      pub other_at : (k : ℕ) → 7 < k → ((i : ℕ) → i < length xs → (get_or xs i no_put).0 ≡ k → ⊥) → at after k ≡ at (home d.blocks) k
+      other_at k low none =
+          changed_outside plan d k (omega arith)
+          (λ i h e. elim (cases_eq i 0) [
+            | inl z ↦ omega (arith, ap (number plan) z, first)
+            | inr n ↦ none (i - 1) (omega (arith, counts)) (sym (at_place i (omega arith) h) ∙ e)
+          ])

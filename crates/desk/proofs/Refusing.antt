@@ -1,5 +1,5 @@
 -- No test of a call refuses for lost power.
-use Rattle.std.proofs.Common.{◌≡◌, ℕ, Bool, true, false, cond, not, ◌&&◌, ◌||◌, eqb, leb, ltb, get_or, Some, None, Ok, Err, Option, Result, List, refl, sym, subst, arith}
+use Rattle.std.proofs.Common.{◌≡◌, ℕ, Bool, true, false, cond, ◌&&◌, ◌||◌, eqb, leb, ltb, get_or, Some, None, Ok, Err, Option, Result, List, refl, subst, arith}
 use Rattle.refusals.specs.declared.reasons.Reason.{Reason}
 use Rattle.refusals.specs.declared.reasons.Reason.TheVariants as reason
 use Rattle.refusals.specs.declared.refusal.Refusal.{Refusal}

@@ -1,5 +1,5 @@
 -- Home blocks that show a tally, and that they show the next one after the change of its record.
-use Rattle.std.proofs.Common.{◌≡◌, ◌≢◌, ℕ, zero, suc, ◌+◌, ◌-◌, ◌*◌, ◌/◌, ◌%◌, ◌^◌, ◌<◌, ◌≤◌, min, max, Bool, true, false, cond, eqb, ◌⊎◌, List, [], ◌∷◌, ◌++◌, map, length, get_or, set, Some, None, Ok, Option, Result, refl, sym, ap, ◌∙◌, subst, inl, inr, add-one, arith}
+use Rattle.std.proofs.Common.{◌≡◌, ℕ, suc, ◌+◌, ◌/◌, ◌^◌, ◌<◌, ◌≤◌, min, max, eqb, List, [], ◌∷◌, ◌++◌, map, length, get_or, set, Some, refl, sym, ap, ◌∙◌, subst, inl, inr, arith}
 use Rattle.std.specs.List.{range_with_len, flat_map}
 use Rattle.std.proofs.lemmas.List.{ext_get_or}
 use Rattle.std.proofs.lemmas.Bool.{cases_eq, cases_lt, cond-true, cond-false, eq-eqb, ne_eqb}
@@ -9,7 +9,6 @@ use Rattle.drives.specs.Disk.{Disk, size}
 use Rattle.journals.specs.Redo.{home}
 use Rattle.rights.specs.declared.row.Row.{Row}
 use Rattle.records.specs.declared.record.Record.{Record}
-use Rattle.records.specs.declared.record.Record.TheVariants.{Posting, Certification, Strike}
 use Rattle.records.specs.Form.{encoded, Fits, Exact}
 use Rattle.layout.specs.declared.head.Head.{Head}
 use Rattle.layout.specs.Codes.{codes_of}
@@ -22,10 +21,10 @@ use Rattle.image.specs.Home.{at, blocks_at, items_on, opening_on, rows_on, count
 use Rattle.image.specs.Lawful.{StandFrom, LawfulHome}
 use Rattle.image.proofs.Replaying.{read_exact}
 use Rattle.image.proofs.Places.{block_of, length-blocks}
-use Rattle.monitor.specs.Changing.{Put, counted, item_puts, item_put, row_put, record_put, puts, change_for, standing_on}
+use Rattle.monitor.specs.Changing.{Put, counted, item_puts, row_put, record_put, puts, standing_on}
 use Rattle.desk.specs.Tally.{Books, made_to}
 use Rattle.desk.proofs.Blocks.{codes_back, rows_back, code_elsewhere, row_elsewhere}
-use Rattle.desk.proofs.Good.{Good, Typed}
+use Rattle.desk.proofs.Good.{Good}
 use Rattle.desk.proofs.Putting.{after}
 use Rattle.desk.proofs.Few.{two_head, two_first, two_second, two_other, three_head, three_first, three_second, three_third, three_other}
 
@@ -73,8 +72,8 @@ module _ (m : Meaning) (most : ℕ) (t : Books) (h : List (List ℕ)) (g : Good 
       let r = shows_rows in
       let c : count_on h ≡ t.standing.count = shows_count ∙ sym g.every in
       standing_same i r c where
-    standing_same : {a b : List ℕ} {p q : List Row} {k l : ℕ} → a ≡ b → p ≡ q → k ≡ l → ◌≡◌ {A = Standing} (record { items = a; rows = p; count = k }) (record { items = b; rows = q; count = l })
-    standing_same e f i = cc
+        standing_same : {a b : List ℕ} {p q : List Row} {k l : ℕ} → a ≡ b → p ≡ q → k ≡ l → ◌≡◌ {A = Standing} (record { items = a; rows = p; count = k }) (record { items = b; rows = q; count = l })
+        standing_same e f i = cc
 
   -- they are lawful
   pub shows_lawful : LawfulHome m most h
@@ -119,9 +118,10 @@ stand_push :
 stand_push h i k n [] x l f same e =
     let here : n ≡ k = omega arith in
     (subst (λ j. Exact j x (at i (33 + j))) here e, tt)
-stand_push h i k n (y ∷ xs) x l f same e =
-    (subst (λ c. Exact k y c) (sym (same k (omega arith) (omega arith))) f.0,
-     stand_push h i (suc k) n xs x (omega arith) f.1 (λ j a b. same j (omega arith) b) e)
+stand_push h i k n (y ∷ xs) x l f same e = (
+  subst (λ c. Exact k y c) (sym (same k (omega arith) (omega arith))) f.0,
+  stand_push h i (suc k) n xs x (omega arith) f.1 (λ j a b. same j (omega arith) b) e,
+)
 
 -- home blocks that show a tally show the next one after the change of its record
 module _ (m : Meaning) (most : ℕ) (t : Books) (h i : List (List ℕ)) (g : Good m most t) (s : Shown m t h) (small : most < 2 ^ 31) where

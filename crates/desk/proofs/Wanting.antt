@@ -1,10 +1,9 @@
 -- What countersign, certify and strike want on an open monitor's drive, and what their records make of it.
-use Rattle.std.proofs.Common.{◌≡◌, ◌≢◌, ℕ, ◌+◌, ◌-◌, ◌/◌, ◌^◌, ◌<◌, ◌≤◌, min, max, true, cond, ◌&&◌, eqb, leb, List, [], ◌∷◌, ◌++◌, length, set, Some, None, Ok, Err, Option, Result, refl, sym, ap, ◌∙◌, subst, arith}
+use Rattle.std.proofs.Common.{◌≡◌, ℕ, ◌+◌, ◌^◌, ◌<◌, true, ◌&&◌, eqb, leb, List, Some, Ok, Err, Result, refl, sym, ap, ◌∙◌, subst, arith}
 use Rattle.std.specs.Str.{bytes_eq}
 use Rattle.refusals.specs.declared.reasons.Reason.TheVariants as reason
 use Rattle.refusals.specs.declared.refusal.Refusal.{Refusal}
 use Rattle.refusals.specs.declared.step_place.StepPlace.{StepPlace}
-use Rattle.refusals.specs.Refused.{and_then}
 use Rattle.books.specs.Meaning.{Meaning, StepTests}
 use Rattle.changes.specs.Plan.{Plan}
 use Rattle.drives.specs.Disk.{Disk, size}
@@ -17,11 +16,10 @@ use Rattle.records.specs.declared.record.Record.{Record}
 use Rattle.records.specs.declared.record.Record.TheVariants.{Posting, Certification, Strike}
 use Rattle.records.specs.Form.{Fits}
 use Rattle.layout.specs.Head.{fields_of_head}
-use Rattle.carrying.specs.Standing.{Standing, with_codes, with_row, step_on, stepped, effect}
-use Rattle.carrying.specs.Carried.{carried}
+use Rattle.carrying.specs.Standing.{Standing, with_codes, with_row, step_on, stepped}
 use Rattle.carrying.specs.Rows.{asked_row, certified, struck}
 use Rattle.carrying.specs.declared.row_draft.RowDraft.{RowDraft}
-use Rattle.image.specs.Home.{at, count_on, house_on, word_on}
+use Rattle.image.specs.Home.{at, house_on, word_on}
 use Rattle.image.specs.Lawful.{lawful_size, room}
 use Rattle.image.proofs.Accepting.{accepted_then}
 use Rattle.monitor.specs.declared.entered.Entered.{Entered}
@@ -72,15 +70,15 @@ module _ (m : Meaning) (b : Books) (d : Disk) (fits : lawful_size (size d) ≡ t
       let lb : n.b < 64 = omega (arith, note.b_within) in
       record {
         clean =
-          clean_then (own_slip m (house_on h) slip) _ (clean_own m (house_on h) slip)
-          (λ _. clean_then (known h user word) _ (clean_known h user word)
-          (λ _. clean_wanted h (posting slip user) _ (clean_posted m (room (size d)) (standing_on h) slip.enterer user n.procedure n.a n.b n.amount)));
+            clean_then (own_slip m (house_on h) slip) _ (clean_own m (house_on h) slip)
+            (λ _. clean_then (known h user word) _ (clean_known h user word)
+            (λ _. clean_wanted h (posting slip user) _ (clean_posted m (room (size d)) (standing_on h) slip.enterer user n.procedure n.a n.b n.amount)));
         carried_out = λ p e. (
-          let one = accepted_then (own_slip m (house_on h) slip) _ p e in
-          let two = accepted_then (known h user word) _ p one.2 in
-          let w = wanted_is h (posting slip user) (post m (room (size d)) (standing_on h) x) p two.2 in
-          let here = sym (ap (λ z. post m (room (size d)) z x) stands) ∙ w.1 in
-          (w.0, carried_posting m (room (size d)) b.standing w.0 x tests la lb note.apart here, w.2, (la, lb, note.apart, omega (arith, note.amount_within))));
+            let one = accepted_then (own_slip m (house_on h) slip) _ p e in
+            let two = accepted_then (known h user word) _ p one.2 in
+            let w = wanted_is h (posting slip user) (post m (room (size d)) (standing_on h) x) p two.2 in
+            let here = sym (ap (λ z. post m (room (size d)) z x) stands) ∙ w.1 in
+            (w.0, carried_posting m (room (size d)) b.standing w.0 x tests la lb note.apart here, w.2, (la, lb, note.apart, omega (arith, note.amount_within))));
         fits = omega (arith, note.amount_within);
       }
 
@@ -91,14 +89,14 @@ module _ (m : Meaning) (b : Books) (d : Disk) (fits : lawful_size (size d) ≡ t
       let w : Row = asked_row asked in
       record {
         clean =
-          clean_then (known h 0 word) _ (clean_known h 0 word)
-          (λ _. clean_wanted h (certification asked) _ (clean_certified m (room (size d)) (standing_on h) row w));
+            clean_then (known h 0 word) _ (clean_known h 0 word)
+            (λ _. clean_wanted h (certification asked) _ (clean_certified m (room (size d)) (standing_on h) row w));
         carried_out = λ q e. (
-          let one = accepted_then (known h 0 word) _ q e in
-          let v = wanted_is h (certification asked) (certified m (room (size d)) (standing_on h) row w) q one.2 in
-          let done = sym (ap (λ z. certified m (room (size d)) z row w) stands) ∙ v.1 in
-          let low : row < 32 = omega (arith, (certified_tells m (room (size d)) b.standing row w v.0 done).row_low) in
-          (v.0, done, v.2, (low, small)));
+            let one = accepted_then (known h 0 word) _ q e in
+            let v = wanted_is h (certification asked) (certified m (room (size d)) (standing_on h) row w) q one.2 in
+            let done = sym (ap (λ z. certified m (room (size d)) z row w) stands) ∙ v.1 in
+            let low : row < 32 = omega (arith, (certified_tells m (room (size d)) b.standing row w v.0 done).row_low) in
+            (v.0, done, v.2, (low, small)));
         fits = small;
       }
 
@@ -106,14 +104,14 @@ module _ (m : Meaning) (b : Books) (d : Disk) (fits : lawful_size (size d) ≡ t
   striking_wants word row =
       record {
         clean =
-          clean_then (known h 0 word) _ (clean_known h 0 word)
-          (λ _. clean_wanted h (Strike row) _ (clean_struck (room (size d)) (standing_on h) row));
+            clean_then (known h 0 word) _ (clean_known h 0 word)
+            (λ _. clean_wanted h (Strike row) _ (clean_struck (room (size d)) (standing_on h) row));
         carried_out = λ q e. (
-          let one = accepted_then (known h 0 word) _ q e in
-          let v = wanted_is h (Strike row) (struck (room (size d)) (standing_on h) row) q one.2 in
-          let done = sym (ap (λ z. struck (room (size d)) z row) stands) ∙ v.1 in
-          let low : row < 32 = omega (arith, (struck_tells (room (size d)) b.standing row v.0 done).row_low) in
-          (v.0, done, v.2, low));
+            let one = accepted_then (known h 0 word) _ q e in
+            let v = wanted_is h (Strike row) (struck (room (size d)) (standing_on h) row) q one.2 in
+            let done = sym (ap (λ z. struck (room (size d)) z row) stands) ∙ v.1 in
+            let low : row < 32 = omega (arith, (struck_tells (room (size d)) b.standing row v.0 done).row_low) in
+            (v.0, done, v.2, low));
         fits = tt;
       }
 
