@@ -6,20 +6,22 @@ use Rattle.refusals.specs.Refused.{and_then}
 use Rattle.books.specs.Meaning.{Meaning}
 use Rattle.changes.specs.Plan.{Plan}
 use Rattle.rights.specs.declared.row.Row.{Row}
+use Rattle.records.specs.declared.record.Posting.{Posting as OfPosting}
 use Rattle.records.specs.declared.record.Record.{Record}
-use Rattle.records.specs.declared.record.Record.TheVariants.{Certification, Strike}
+use Rattle.records.specs.declared.record.Record.TheVariants.{Posting, Strike}
 use Rattle.notes.specs.Held.{numbers_of}
 use Rattle.notes.specs.declared.note.Note.{Note}
 use Rattle.layout.specs.declared.head.Head.{Head}
 use Rattle.layout.specs.Head.{fields_of_head}
 use Rattle.carrying.specs.Carried.{posted}
-use Rattle.carrying.specs.Rows.{certified, struck}
+use Rattle.carrying.specs.declared.row_draft.RowDraft.{RowDraft}
+use Rattle.carrying.specs.Rows.{asked_row, certified, struck}
 use Rattle.carrying.specs.Standing.{Standing}
 use Rattle.image.specs.Home.{at, house_on}
 use Rattle.monitor.specs.declared.entered.Entered.{Entered}
 use Rattle.monitor.specs.declared.stage.CallKind.TheVariants.{Working}
 use Rattle.monitor.specs.Asking.{known}
-use Rattle.monitor.specs.Calls.{Changes, Acknowledged, LostPower, own_slip, posting, countersigned, certifying, striking, IsNote}
+use Rattle.monitor.specs.Calls.{Changes, Acknowledged, LostPower, own_slip, posting, posting_of, certification, countersigned, certifying, striking, IsNote}
 use Rattle.monitor.specs.Changing.{standing_on, change_for, wanted}
 use Rattle.monitor.specs.Machine.{Machine, home_of, room_of}
 use Rattle.monitor.specs.Stages.{admitted}
@@ -74,6 +76,16 @@ countersigned_is m s user word slip p q r =
     (wanted (home_of s) (posting slip user) (posted m (room_of s) (standing_on (home_of s)) slip.enterer user slip.numbers.procedure slip.numbers.a slip.numbers.b slip.numbers.amount))
     p q r
 
+-- the same by what its record says
+pub countersigned_of :
+    (m : Meaning) (s : Machine) (user : ℕ) (word : List ℕ) (slip : Entered) (x : OfPosting) → x ≡ posting_of slip user
+    → Ok tt ≡ admitted s.stage Working → Ok tt ≡ own_slip m (house_on (home_of s)) slip → Ok tt ≡ known (home_of s) user word
+    → countersigned m s user word slip
+    ≡ wanted (home_of s) (Posting x) (posted m (room_of s) (standing_on (home_of s)) x.enterer x.countersigner x.procedure x.a x.b x.amount)
+countersigned_of m s user word slip x e p q r =
+    countersigned_is m s user word slip p q r
+    ∙ ap (λ (y : OfPosting). wanted (home_of s) (Posting y) (posted m (room_of s) (standing_on (home_of s)) y.enterer y.countersigner y.procedure y.a y.b y.amount)) (sym e)
+
 -- a note's numbers are a note's
 pub is_note : (note : Note) → IsNote (numbers_of note)
 is_note note =
@@ -89,14 +101,12 @@ struck_as k l s u i e f = ap (λ z. struck z u i) (sym e) ∙ ap (λ z. struck k
 
 -- a certification and a strike that passed the custodian's test
 pub certifying_is :
-    (m : Meaning) (s : Machine) (word : List ℕ) (row user procedure role mask : ℕ)
+    (m : Meaning) (s : Machine) (word : List ℕ) (d : RowDraft)
     → Ok tt ≡ admitted s.stage Working → Ok tt ≡ known (home_of s) 0 word
-    → certifying m s word row user procedure role mask
-    ≡ wanted (home_of s) (Certification user procedure role row mask) (certified m (room_of s) (standing_on (home_of s)) row (record { user = user; procedure = procedure; role = role; mask = mask }))
-certifying_is m s word row user procedure role mask p q =
+    → certifying m s word d ≡ wanted (home_of s) (certification d) (certified m (room_of s) (standing_on (home_of s)) d.row (asked_row d))
+certifying_is m s word d p q =
     passed_two (admitted s.stage Working) (known (home_of s) 0 word)
-    (wanted (home_of s) (Certification user procedure role row mask) (certified m (room_of s) (standing_on (home_of s)) row (record { user = user; procedure = procedure; role = role; mask = mask })))
-    p q
+    (wanted (home_of s) (certification d) (certified m (room_of s) (standing_on (home_of s)) d.row (asked_row d))) p q
 
 pub striking_is :
     (s : Machine) (word : List ℕ) (row : ℕ) → Ok tt ≡ admitted s.stage Working → Ok tt ≡ known (home_of s) 0 word

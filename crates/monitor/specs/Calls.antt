@@ -11,6 +11,7 @@ use Rattle.changes.specs.Plan.{Plan}
 use Rattle.journals.specs.declared.place.Place.{Place}
 use Rattle.journals.specs.declared.place.Place.TheVariants as journal
 use Rattle.journals.specs.Outcomes.{Made, CutChange}
+use Rattle.records.specs.declared.record.Posting.{Posting as OfPosting}
 use Rattle.records.specs.declared.record.Record.{Record}
 use Rattle.records.specs.declared.record.Record.TheVariants.{Posting, Certification, Strike}
 use Rattle.carrying.specs.Carried.{posted}
@@ -54,17 +55,19 @@ abbrev pub own_slip : Meaning → ℕ → Entered → Result (Unit {0}) Refusal
 own_slip m house slip =
     cond (slip.numbers.kind == m.kind && slip.house == house) (Ok tt) (refused Foreign slip.house)
 
--- the record of a slip that a user countersigns
+-- what the record of a slip says that a user countersigns, and the record
+abbrev pub posting_of : Entered → ℕ → OfPosting
+posting_of slip user = record {
+  enterer = slip.enterer;
+  countersigner = user;
+  procedure = slip.numbers.procedure;
+  a = slip.numbers.a;
+  b = slip.numbers.b;
+  amount = slip.numbers.amount;
+}
+
 abbrev pub posting : Entered → ℕ → Record
-posting slip user =
-    Posting (record {
-      enterer = slip.enterer;
-      countersigner = user;
-      procedure = slip.numbers.procedure;
-      a = slip.numbers.a;
-      b = slip.numbers.b;
-      amount = slip.numbers.amount;
-    })
+posting slip user = Posting (posting_of slip user)
 
 -- countersign: the slip is this house's (10), the word is the user's (8), and then the tests of a posting by the rows that
 -- stand now (11, 9, 12, 13, 14, 15)

@@ -1,4 +1,4 @@
-ghost use Rattle.std.specs.Prelude.{◌≡◌};
+ghost use Rattle.std.specs.Prelude.{◌≡◌, ◌&&◌, nat_le};
 ghost use Rattle.monitor.specs.Asking.{item_seen, record_seen};
 ghost use Rattle.monitor.specs.Machine.{machine};
 
@@ -9,6 +9,13 @@ use books::Book;
 use drives::Drive;
 use records::{Record, decode};
 use refusals::{Reason, Refusal};
+
+/// Whether a record of this number is counted.
+fn is_counted(number: u64, count: u32) -> bool
+    ensures value { result ≡ (nat_le 1 number && nat_le number count) }
+{
+    (1..=u64::from(count)).contains(&number)
+}
 
 impl<D: Drive, B: Book> Monitor<D, B> {
     /// The code of an item.
@@ -34,7 +41,7 @@ impl<D: Drive, B: Book> Monitor<D, B> {
             journal: &self.journal,
         };
         let none = Refusal::at(Reason::NoSuchEntry, number);
-        if !(1..=u64::from(reader.head().count)).contains(&number) {
+        if !is_counted(number, reader.head().count) {
             return Err(none);
         }
         decode(&reader.block(33 + number), number as u32).ok_or(none)

@@ -1,12 +1,11 @@
 ghost use Rattle.std.specs.Prelude.{◌≡◌, ◌<◌, ◌&&◌, ◌==◌, OnOk};
 ghost use Rattle.drives.specs.Disk.{size};
 ghost use Rattle.journals.specs.Redo.{home};
-ghost use Rattle.records.specs.declared.record.Record.TheVariants.{Posting as OfPosting};
 ghost use Rattle.carrying.specs.Carried.{posted};
 ghost use Rattle.carrying.specs.Results.{Gives};
 ghost use Rattle.image.specs.Home.{count_on};
 ghost use Rattle.image.specs.Lawful.{room};
-ghost use Rattle.monitor.specs.Calls.{posting, own_slip, Countersigns};
+ghost use Rattle.monitor.specs.Calls.{posting_of as of-slip, own_slip, Countersigns};
 ghost use Rattle.monitor.specs.Changing.{standing_on};
 ghost use Rattle.monitor.specs.Held.{entered_of};
 ghost use Rattle.monitor.specs.Machine.{machine};
@@ -41,7 +40,7 @@ fn check_slip<B: Book>(house: u32, slip: Entered) -> Result<(), Refusal>
 
 /// What the record of a slip says that a user countersigns.
 fn posting_of(slip: Entered, countersigner: u8) -> Posting
-    ensures value { OfPosting result ≡ posting slip countersigner }
+    ensures value { result ≡ of-slip slip countersigner }
 {
     Posting {
         enterer: slip.enterer,

@@ -14,7 +14,7 @@ returns g c =
     record {
       value = all_joined c.head_block-head.result c.codes_blocks.result c.rows_blocks.result c.roll_blocks.result.0 c.roll_blocks.result.1
           (head_form (record { house = c.args.house; kind = g.B.Book.meaning.kind; count = 0 })) (first_words roll) (last_words roll) opening (replicate 32 free)
-          (c.head_block-head.ensures.value ∙ ap (λ (k : ℕ). head_form (record { house = c.args.house; kind = k; count = 0 })) c.kind_number.ensures.value)
+          (c.head_block-head.ensures.value ∙ ap (λ (k : ℕ). head_form (record { house = c.args.house; kind = k; count = 0 })) (c.KIND.ensures ∙ g.met.B.Book.kind_is))
           (c.codes_blocks.ensures.value ∙ ap blocks_of_codes c.copy_from_slice.ensures.after)
           c.rows_blocks.ensures.value
           (c.roll_blocks.ensures.first ∙ ap first_words c.copy_from_slice-2.ensures.after)

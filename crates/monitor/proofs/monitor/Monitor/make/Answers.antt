@@ -1,6 +1,7 @@
 use Rattle.std.proofs.Common.{◌≡◌, ◌+◌, ◌≤◌, subst, ap, ◌∙◌, arith}
 use Rattle.drives.specs.Disk.{Disk, size}
 use Rattle.changes.specs.Plan.{Plan, plan_of, number}
+use Rattle.changes.proofs.Encoding.{change_rises}
 use Rattle.journals.specs.Outcomes.{changed}
 use Rattle.carrying.specs.Standing.{Standing, standing_of}
 use Rattle.image.specs.Home.{count_on}
@@ -22,7 +23,7 @@ invariant_of-self g c =
     let same : plan_of k ≡ q = c.change_of-change.ensures.value in
     let made = c.in-Ok.ensures.changes.met steady.ready.on (omega (arith, c.change_of-change.ensures.ends, c.requires.room)) in
     let some = subst (λ (p : Plan). 1 ≤ p.count) same k.some in
-    let rise = subst (λ (p : Plan). Rise p.count (number p)) same k.rise in
+    let rise = subst (λ (p : Plan). Rise p.count (number p)) same (change_rises k (size d) (omega (arith, c.change_of-change.ensures.ends, c.requires.room))).rise in
     let counts : count_on (changed (plan_of k) d) ≡ c.args.head.count + 1 =
     ap (λ (p : Plan). count_on (changed p d)) same
     ∙ changed_count c.args.head c.args.entry s d some rise (omega arith) (omega (arith, c.requires.room)) in

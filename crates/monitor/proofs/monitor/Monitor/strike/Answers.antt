@@ -14,5 +14,5 @@ returns g c =
     let x : Record = Strike c.args.row in
     let is = striking_is s c.args.word.now c.args.row c.in_ok-admit.ensures.value c.in_ok-identify.ensures.value in
     record {
-      strikes = changes_made s t c.make.result _ x _ is c.head_on-head.result x (standing_of c.in_ok-held.held) c.in_ok-held.ensures.gives c.head_on-head.ensures.value refl c.make.ensures.makes;
+      strikes = changes_made s t c.make.result _ x _ is c.head-head.result x (standing_of c.in_ok-held.held) c.in_ok-held.ensures.gives c.head-head.ensures.value refl c.make.ensures.makes;
     }
