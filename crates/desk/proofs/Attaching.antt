@@ -25,6 +25,7 @@ use Rattle.desk.specs.Law.{OnlyForPower}
 use Rattle.desk.specs.Tally.{Books, Tally, certain, made_to, settled, attached}
 use Rattle.desk.proofs.Good.{Good}
 use Rattle.desk.proofs.Keeping.{MayShow, Waiting, Inv, inv_at, waits}
+use Rattle.desk.proofs.Refusing.{same_err}
 use Rattle.desk.proofs.Showing.{Shown, shows_lawful}
 
 -- home blocks that may stand are lawful
@@ -98,9 +99,6 @@ module _ (m : Meaning) (t : Tally) (s : Machine) (i : Inv m t s) where
             (λ h w. here.shows h (lost.adds_nothing.stands h w))
         | inr on ↦ powered_keeps e u a.stage on
       ] where
-        same_err : (x y : Refusal) → ◌≡◌ {A = Result ℕ Refusal} (Err x) (Err y) → x ≡ y
-        same_err x y q = cc
-
         powered_keeps : (e : Refusal) (u : Machine) → u.stage ≡ stage_after (Err e) → PoweredOn m s.disk (Err e) u.disk → Inv m t u × (e ≡ lost_at Starting)
         powered_keeps e u st on =
             let p : Disk = on.left in

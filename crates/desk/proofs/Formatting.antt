@@ -1,5 +1,5 @@
 -- Format: accepted, the books begin; refused, they are as they were.
-use Rattle.std.proofs.Common.{◌≡◌, ℕ, ◌^◌, ◌<◌, ◌≤◌, true, ◌&&◌, eqb, leb, ltb, List, [], ◌∷◌, ◌++◌, length, get_or, drop, Some, None, Ok, Err, Option, Result, refl, sym, ap, ◌∙◌, subst, inl, inr, arith}
+use Rattle.std.proofs.Common.{◌≡◌, ℕ, ◌^◌, ◌<◌, ◌≤◌, true, ◌&&◌, eqb, leb, ltb, List, ◌++◌, length, get_or, drop, Some, None, Ok, Err, Option, Result, refl, sym, ap, ◌∙◌, subst, inl, inr, arith}
 use Rattle.std.proofs.lemmas.Bool.{and_parts, leb-true, ltb-true, eqb-true, cond-false, ne_eqb, cases_lt}
 use Rattle.std.proofs.lemmas.List.{get_or-replicate, get_or_past}
 use Rattle.refusals.specs.declared.reasons.Reason.TheVariants as reason
@@ -12,13 +12,14 @@ use Rattle.drives.specs.Disk.{size}
 use Rattle.journals.specs.Redo.{home}
 use Rattle.rights.specs.Covers.{free}
 use Rattle.rights.specs.declared.row.Row.{Row}
+use Rattle.records.specs.declared.record.Record.TheVariants.{Posting}
 use Rattle.layout.specs.Rounds.{CodesFit}
 use Rattle.image.specs.Lawful.{lawful_size, room}
 use Rattle.monitor.specs.declared.stage.Stage.TheVariants.{Open}
 use Rattle.monitor.specs.Machine.{Machine}
 use Rattle.monitor.specs.Starting.{formattable, first_home, Formats, Starts, FormatDone}
 use Rattle.desk.specs.Tally.{Tally, began, certain, formatted}
-use Rattle.desk.proofs.Good.{Good, free_rows}
+use Rattle.desk.proofs.Good.{Good, free_rows, no_tail}
 use Rattle.desk.proofs.Keeping.{Inv, inv_at}
 use Rattle.desk.proofs.Refusing.{NotLost, Clean, clean_ok, clean_refused, clean_cond}
 use Rattle.desk.proofs.Showing.{Shown}
@@ -84,11 +85,8 @@ began_good m most n house roll opening f fit =
       long_rows = refl;
       rows_fit = free_fit;
       rows_given = refl;
-      by_two = λ before after p q. no_posting before _ after q;
-    } where
-      no_posting : {X A : Type 0} (before : List X) (x : X) (after : List X) → [] ≡ before ++ (x ∷ after) → A
-      no_posting [] x after q = absurd (let z : ◌≡◌ {A = ℕ} 0 1 = cc in omega arith)
-      no_posting (y ∷ ys) x after q = absurd (let z : ◌≡◌ {A = ℕ} 0 1 = cc in omega arith)
+      by_two = λ before after p q. no_tail (Posting p) before after q;
+    }
 
 began_shown : (m : Meaning) (n house : ℕ) (roll opening : List ℕ) (rest : List (List ℕ)) → Formattable m n house roll opening → Shown m (began opening) (first_home m house roll opening ++ rest)
 began_shown m n house roll opening rest f =

@@ -4,10 +4,10 @@ use Rattle.std.proofs.lemmas.List.{length-set, get_or-set_same, get_or-set_other
 use Rattle.std.proofs.lemmas.Bool.{cases_Bool, cases_eq, cases_lt, cond-true, cond-false, le-leb, ne_eqb}
 use Rattle.std.proofs.Math.ListN.{length-append}
 use Rattle.refusals.specs.declared.refusal.Refusal.{Refusal}
-use Rattle.refusals.specs.declared.step_place.StepPlace.{StepPlace}
 use Rattle.refusals.specs.Refused.{and_then}
 use Rattle.books.specs.Meaning.{Meaning, has_procedure, amount_ok, StepTests, StepGivesCodes}
 use Rattle.notes.specs.Notes.{noted}
+use Rattle.journals.proofs.Reading.{not_ok}
 use Rattle.rights.specs.Covers.{free}
 use Rattle.rights.specs.declared.row.Row.{Row}
 use Rattle.records.specs.declared.record.Posting.{Posting as PostingRecord}
@@ -78,7 +78,8 @@ among_later y xs x before p after (inr w) = inr (w.0, ap (λ z. y ∷ z) w.1)
 tail_same : {X : Type 0} (x y : X) (xs ys : List X) → x ∷ xs ≡ y ∷ ys → (x ≡ y) × (xs ≡ ys)
 tail_same x y xs ys e = (cc, cc)
 
-no_tail : {X A : Type 0} (x : X) (xs ys : List X) → [] ≡ xs ++ (x ∷ ys) → A
+-- an empty list has no element
+pub no_tail : {X A : Type 0} (x : X) (xs ys : List X) → [] ≡ xs ++ (x ∷ ys) → A
 no_tail x [] ys e = absurd (let z : ◌≡◌ {A = ℕ} 0 1 = cc in omega arith)
 no_tail x (y ∷ xs) ys e = absurd (let z : ◌≡◌ {A = ℕ} 0 1 = cc in omega arith)
 
@@ -209,18 +210,15 @@ good_made m most gives t (Strike k) s g y c =
       good = row_more m most t g (Strike k) k free s tt c f (omega arith) (λ rows. refl);
     }
 
-not_both : {A : Type 0} (x y : ℕ) (e : StepPlace) → ◌≡◌ {A = Result (ℕ × ℕ) StepPlace} (Ok (x, y)) (Err e) → A
-not_both x y e q = absurd (let z : ◌≡◌ {A = ℕ} 0 1 = cc in omega arith)
-
 -- the step takes a note's numbers alone
 noted_ok :
     (m : Meaning) (p a b n x y i j : ℕ) → StepTests m → a < 64 → b < 64 → (a ≢ b) → m.step p a b i j n ≡ Ok (x, y)
     → noted m p a b n ≡ Ok (record { kind = m.kind; procedure = p; a = a; b = b; amount = n })
 noted_ok m p a b n x y i j tests la lb ne h =
-    let word : has_procedure m p ≡ true = elim (cases_Bool (has_procedure m p)) [ inl t ↦ t | inr f ↦ not_both x y _ (sym h ∙ tests.needs_word p a b i j n f) ] in
+    let word : has_procedure m p ≡ true = elim (cases_Bool (has_procedure m p)) [ inl t ↦ t | inr f ↦ not_ok (x, y) _ (sym h ∙ tests.needs_word p a b i j n f) ] in
     let amount : amount_ok m.ceiling n ≡ true = elim (cases_Bool (amount_ok m.ceiling n)) [
       | inl t ↦ t
-      | inr f ↦ elim (tests.needs_amount p a b i j n f) [ inl q ↦ not_both x y _ (sym h ∙ q) | inr q ↦ not_both x y _ (sym h ∙ q) ]
+      | inr f ↦ elim (tests.needs_amount p a b i j n f) [ inl q ↦ not_ok (x, y) _ (sym h ∙ q) | inr q ↦ not_ok (x, y) _ (sym h ∙ q) ]
     ] in
     cond-true (has_procedure m p) _ _ word
     ∙ cond-true (leb a 63) _ _ (le-leb a 63 (omega arith))

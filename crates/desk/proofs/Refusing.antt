@@ -7,7 +7,6 @@ use Rattle.refusals.specs.declared.step_place.StepPlace.{StepPlace}
 use Rattle.refusals.specs.Numbers.{number}
 use Rattle.refusals.specs.Refused.{refused, and_then}
 use Rattle.books.specs.Meaning.{Meaning, has_procedure}
-use Rattle.changes.specs.Plan.{Plan}
 use Rattle.rights.specs.Covers.{uncovered, free, is_free}
 use Rattle.rights.specs.declared.row.Role.TheVariants.{Enter, Countersign}
 use Rattle.rights.specs.declared.row.Row.{Row}
@@ -25,13 +24,15 @@ NotLost e = number e.reason ≡ 7 → ⊥
 pub record Clean {X : Type 0} (r : Result X Refusal) : Type 0 where
   pub clean : (e : Refusal) → r ≡ Err e → NotLost e
 
+-- an answer refuses for one reason
+pub same_err : {X : Type 0} (f e : Refusal) → ◌≡◌ {A = Result X Refusal} (Err f) (Err e) → f ≡ e
+same_err f e q = cc
+
 pub clean_ok : {X : Type 0} (x : X) → Clean (Ok x)
 clean_ok x = record { clean = λ e q. absurd (let z : ◌≡◌ {A = ℕ} 0 1 = cc in omega arith) }
 
 pub clean_refused : {X : Type 0} (why : Reason) (place : ℕ) → (number why ≡ 7 → ⊥) → Clean {X = X} (refused why place)
-clean_refused why place h = record { clean = λ e q. subst NotLost (same e q) h } where
-  same : {Y : Type 0} (e : Refusal) → ◌≡◌ {A = Result Y Refusal} (refused why place) (Err e) → record { reason = why; place = place } ≡ e
-  same e q = cc
+clean_refused why place h = record { clean = λ e q. subst NotLost (same_err _ e q) h }
 
 pub clean_cond : {X : Type 0} (t : Bool) (a b : Result X Refusal) → Clean a → Clean b → Clean (cond t a b)
 clean_cond true a b p q = p
@@ -39,9 +40,7 @@ clean_cond false a b p q = q
 
 pub clean_then : {X Y : Type 0} (r : Result X Refusal) (next : X → Result Y Refusal) → Clean r → ((x : X) → Clean (next x)) → Clean (and_then r next)
 clean_then (Ok x) next p q = q x
-clean_then (Err f) next p q = record { clean = λ e h. subst NotLost (same f e h) (p.clean f refl) } where
-  same : {Z : Type 0} (f e : Refusal) → ◌≡◌ {A = Result Z Refusal} (Err f) (Err e) → f ≡ e
-  same f e h = cc
+clean_then (Err f) next p q = record { clean = λ e h. subst NotLost (same_err f e h) (p.clean f refl) }
 
 pub clean_unless : {X : Type 0} (why : Reason) (o : Option ℕ) (r : Result X Refusal) → (number why ≡ 7 → ⊥) → Clean r → Clean (unless why o r)
 clean_unless why None r h q = q
@@ -86,6 +85,4 @@ clean_struck room s k =
 
 pub clean_wanted : (h : List (List ℕ)) (x : Record) (r : Result Standing Refusal) → Clean r → Clean (wanted h x r)
 clean_wanted h x (Ok s) c = clean_ok _
-clean_wanted h x (Err f) c = record { clean = λ e q. subst NotLost (same f e q) (c.clean f refl) } where
-  same : (f e : Refusal) → ◌≡◌ {A = Result Plan Refusal} (Err f) (Err e) → f ≡ e
-  same f e h = cc
+clean_wanted h x (Err f) c = record { clean = λ e q. subst NotLost (same_err f e q) (c.clean f refl) }

@@ -1,6 +1,7 @@
 -- What countersign, certify and strike want on an open monitor's drive, and what their records make of it.
 use Rattle.std.proofs.Common.{◌≡◌, ℕ, ◌+◌, ◌^◌, ◌<◌, true, ◌&&◌, eqb, leb, List, Some, Ok, Err, Result, refl, sym, ap, ◌∙◌, subst, arith}
 use Rattle.std.specs.Str.{bytes_eq}
+use Rattle.std.proofs.lemmas.Option.{same_Some}
 use Rattle.refusals.specs.declared.reasons.Reason.TheVariants as reason
 use Rattle.refusals.specs.declared.refusal.Refusal.{Refusal}
 use Rattle.refusals.specs.declared.step_place.StepPlace.{StepPlace}
@@ -11,7 +12,6 @@ use Rattle.journals.specs.Outcomes.{changed}
 use Rattle.journals.specs.Redo.{home}
 use Rattle.rights.specs.Covers.{free}
 use Rattle.rights.specs.declared.row.Row.{Row}
-use Rattle.records.specs.declared.record.Posting.{Posting as PostingRecord}
 use Rattle.records.specs.declared.record.Record.{Record}
 use Rattle.records.specs.declared.record.Record.TheVariants.{Posting, Certification, Strike}
 use Rattle.records.specs.Form.{Fits}
@@ -25,7 +25,7 @@ use Rattle.image.proofs.Accepting.{accepted_then}
 use Rattle.monitor.specs.declared.entered.Entered.{Entered}
 use Rattle.monitor.specs.declared.stage.Stage.TheVariants.{Open}
 use Rattle.monitor.specs.Asking.{known}
-use Rattle.monitor.specs.Calls.{IsNote, own_slip, posting, countersigned, certification, certifying, striking}
+use Rattle.monitor.specs.Calls.{IsNote, own_slip, posting_of, posting, countersigned, certification, certifying, striking}
 use Rattle.monitor.specs.Changing.{change_for, wanted, standing_on}
 use Rattle.monitor.specs.Machine.{machine}
 use Rattle.monitor.proofs.Steadying.{size_low, size_high}
@@ -46,9 +46,6 @@ stepped_is : (s : Standing) (a b : ℕ) (r : Result (ℕ × ℕ) StepPlace) (u :
 stepped_is s a b (Ok xy) u e = (xy.0, xy.1, cc)
 stepped_is s a b (Err f) u e = absurd (let z : ◌≡◌ {A = ℕ} 0 1 = cc in omega arith)
 
-some_same : {X : Type 0} (x y : X) → Some x ≡ Some y → x ≡ y
-some_same x y e = cc
-
 clean_known : (h : List (List ℕ)) (user : ℕ) (word : List ℕ) → Clean (known h user word)
 clean_known h user word = clean_cond (leb user 15 && bytes_eq word (word_on h user)) _ _ (clean_ok tt) (clean_refused reason.BadWord user (λ e. omega arith))
 
@@ -65,7 +62,7 @@ module _ (m : Meaning) (b : Books) (d : Disk) (fits : lawful_size (size d) ≡ t
   pub countersigned_wants : StepTests m → (user : ℕ) (word : List ℕ) (slip : Entered) → IsNote slip.numbers → Wants m b d (posting slip user) (countersigned m (machine Open d) user word slip)
   countersigned_wants tests user word slip note =
       let n = slip.numbers in
-      let x : PostingRecord = record { enterer = slip.enterer; countersigner = user; procedure = n.procedure; a = n.a; b = n.b; amount = n.amount } in
+      let x = posting_of slip user in
       let la : n.a < 64 = omega (arith, note.a_within) in
       let lb : n.b < 64 = omega (arith, note.b_within) in
       record {
@@ -132,12 +129,12 @@ module _ (m : Meaning) (b : Books) (d : Disk) (fits : lawful_size (size d) ≡ t
       (shows_next m (room (size d)) b h _ g k.shows small_room (Posting p) u f q.had_room moves)
   shows_after (Certification c) u y f q i j =
       let row : Row = record { user = c.user; procedure = c.procedure; role = c.role; mask = c.mask } in
-      let is : u ≡ with_row b.standing c.row row = sym (some_same _ _ q.effects) in
+      let is : u ≡ with_row b.standing c.row row = sym (same_Some _ _ q.effects) in
       let moves = row_moves m (room (size d)) b d g k.shows wide q.had_room (Certification c) c.row row u y.0 (ap (λ (z : Standing). z.items) is) (ap (λ (z : Standing). z.rows) is) refl in
       subst (λ z. Shown m (made_to b (Certification c) (Some u)) z) (sym j)
       (shows_next m (room (size d)) b h _ g k.shows small_room (Certification c) u f q.had_room moves)
   shows_after (Strike l) u y f q i j =
-      let is : u ≡ with_row b.standing l free = sym (some_same _ _ q.effects) in
+      let is : u ≡ with_row b.standing l free = sym (same_Some _ _ q.effects) in
       let moves = row_moves m (room (size d)) b d g k.shows wide q.had_room (Strike l) l free u y (ap (λ (z : Standing). z.items) is) (ap (λ (z : Standing). z.rows) is) refl in
       subst (λ z. Shown m (made_to b (Strike l) (Some u)) z) (sym j)
       (shows_next m (room (size d)) b h _ g k.shows small_room (Strike l) u f q.had_room moves)
