@@ -8,7 +8,7 @@ use Rattle.monitor.specs.Calls.{Countersigns as MonitorCountersigns}
 use Rattle.monitor.specs.Asking.{entered}
 use Rattle.monitor.specs.Machine.{Machine}
 use Rattle.desk.specs.declared.answer.Answer.TheVariants as answer
-use Rattle.desk.specs.Events.{Event, NoteEntered, Countersigned, Happens}
+use Rattle.histories.specs.Events.{Event, NoteEntered, Countersigned, Happens}
 use Rattle.desk.specs.declared.tray.Waiting.{Waiting}
 use Rattle.desk.specs.Serving.{ticket_of, tickets_of, Ticket, Moves, Serves, Answered, Enters, Countersigns, Withdraws, CountersignsSlip, WithdrawsSlip, with_slip, waiting, without}
 

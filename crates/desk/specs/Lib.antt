@@ -1,4 +1,1 @@
-pub mod Events
-pub mod Tally
-pub mod Law
 pub mod Serving

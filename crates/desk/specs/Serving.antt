@@ -15,8 +15,8 @@ use Rattle.desk.specs.declared.answer.Answer.TheVariants as answer
 use Rattle.desk.specs.declared.call.Call.{Call}
 use Rattle.desk.specs.declared.call.Call.TheVariants as call
 use Rattle.desk.specs.declared.tray.Waiting.{Waiting}
-use Rattle.desk.specs.Events.{Event, Formatted, Attached, NoteEntered, Countersigned, Certified, Struck, ItemSeen, RecordSeen, Happens, History}
-use Rattle.desk.specs.Law.{Law}
+use Rattle.histories.specs.Events.{Event, Formatted, Attached, NoteEntered, Countersigned, Certified, Struck, ItemSeen, RecordSeen, Happens, History}
+use Rattle.histories.specs.Law.{Law}
 
 -- what a call asks for, by its numbers and bytes
 pub data Request : Type 0 where

@@ -3,7 +3,7 @@ use Rattle.std.specs.Prelude.{◌≡◌, ◌≢◌, ℕ, ◌+◌, true, List, []
 use Rattle.refusals.specs.declared.power_place.PowerPlace.TheVariants.{Starting}
 use Rattle.refusals.specs.declared.refusal.Refusal.{Refusal}
 use Rattle.refusals.specs.Refused.{lost_at}
-use Rattle.books.specs.Meaning.{Meaning}
+use Rattle.books.specs.Meaning.{Meaning, StepTests, StepGivesCodes}
 use Rattle.rights.specs.Covers.{covered, free}
 use Rattle.rights.specs.declared.row.Asked.{Asked}
 use Rattle.rights.specs.declared.row.Role.TheVariants.{Enter, Countersign}
@@ -17,8 +17,8 @@ use Rattle.image.specs.Home.{items_on, opening_on, rows_on, records_on}
 use Rattle.monitor.specs.declared.stage.Stage.TheVariants.{Open}
 use Rattle.monitor.specs.Calls.{posting, certification}
 use Rattle.monitor.specs.Machine.{Machine, home_of, room_of}
-use Rattle.desk.specs.Events.{Event, Formatted, Attached, NoteEntered, Countersigned, Certified, Struck, ItemSeen, RecordSeen}
-use Rattle.desk.specs.Tally.{Books, Tally, tally}
+use Rattle.histories.specs.Events.{Event, Formatted, Attached, NoteEntered, Countersigned, Certified, Struck, ItemSeen, RecordSeen, History}
+use Rattle.histories.specs.Tally.{Books, Tally, tally}
 
 -- the rows that records give, one after another
 abbrev pub rows_after : List Row → List Record → List Row
@@ -91,3 +91,7 @@ AllOwed m (e ∷ es) = Known (tally m es) (λ t. Owed m t e) × AllOwed m es
 pub record Law (m : Meaning) (es : List Event) (s : Machine) : Type 0 where
   pub agrees : s.stage ≡ Open → Known (tally m es) (λ t. Agrees m s t.books)
   pub owed : AllOwed m es
+
+-- every history obeys the law, for every book whose step makes its tests in their order and gives codes of 64 bits
+abbrev pub LawHolds : Type 0
+LawHolds = (m : Meaning) → StepTests m → StepGivesCodes m → (es : List Event) (s : Machine) → History m es s → Law m es s

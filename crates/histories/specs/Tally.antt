@@ -9,7 +9,7 @@ use Rattle.records.specs.declared.record.Record.{Record}
 use Rattle.records.specs.declared.record.Record.TheVariants.{Strike}
 use Rattle.carrying.specs.Standing.{Standing, opened, effect}
 use Rattle.monitor.specs.Calls.{posting, certification}
-use Rattle.desk.specs.Events.{Event, Formatted, Attached, NoteEntered, Countersigned, Certified, Struck, ItemSeen, RecordSeen}
+use Rattle.histories.specs.Events.{Event, Formatted, Attached, NoteEntered, Countersigned, Certified, Struck, ItemSeen, RecordSeen}
 
 -- books as they should be: the opening; what stands, the items, the rows and how many records; and the records in order, one for
 -- each change that stands

@@ -1,0 +1,12 @@
+pub mod Putting
+pub mod Few
+pub mod Blocks
+pub mod Carrying
+pub mod Good
+pub mod Showing
+pub mod Refusing
+pub mod Keeping
+pub mod Wanting
+pub mod Attaching
+pub mod Formatting
+pub mod Histories
