@@ -1,2 +1,3 @@
 mod Trays
 mod Moving
+mod Sessions

@@ -4,13 +4,17 @@ use Rattle.refusals.specs.declared.refusal.Refusal.{Refusal}
 use Rattle.books.specs.Meaning.{Meaning}
 use Rattle.notes.specs.declared.numbers.Numbers.{Numbers}
 use Rattle.monitor.specs.declared.entered.Entered.{Entered}
-use Rattle.monitor.specs.Calls.{Countersigns as MonitorCountersigns}
-use Rattle.monitor.specs.Asking.{entered}
+use Rattle.records.specs.declared.record.Record.{Record}
+use Rattle.carrying.specs.declared.row_draft.RowDraft.{RowDraft}
+use Rattle.monitor.specs.Calls.{Countersigns as MonitorCountersigns, Certifies as MonitorCertifies, Strikes as MonitorStrikes}
+use Rattle.monitor.specs.Starting.{Formats as MonitorFormats, Attaches as MonitorAttaches}
+use Rattle.monitor.specs.Asking.{entered, item_seen, record_seen}
 use Rattle.monitor.specs.Machine.{Machine}
+use Rattle.desk.specs.declared.answer.Answer.{Answer}
 use Rattle.desk.specs.declared.answer.Answer.TheVariants as answer
-use Rattle.histories.specs.Events.{Event, NoteEntered, Countersigned, Happens}
+use Rattle.histories.specs.Events.{Event, Formatted, Attached, NoteEntered, Countersigned, Certified, Struck, ItemSeen, RecordSeen, Happens}
 use Rattle.desk.specs.declared.tray.Waiting.{Waiting}
-use Rattle.desk.specs.Serving.{ticket_of, tickets_of, Ticket, Moves, Serves, Answered, Enters, Countersigns, Withdraws, CountersignsSlip, WithdrawsSlip, with_slip, waiting, without}
+use Rattle.desk.specs.Serving.{ticket_of, tickets_of, Ticket, Moves, Serves, Answered, Request, Formats, Attaches, Certifies, Strikes, LooksAtItem, LooksAtRecord, Enters, Countersigns, Withdraws, CountersignsSlip, WithdrawsSlip, with_slip, waiting, without}
 
 -- a call of the monitor that happened
 pub moved : (m : Meaning) (s t : Machine) (e : Event) (tray now : List Ticket) (es : List Event) → Happens m s e t
@@ -55,3 +59,28 @@ module _ (m : Meaning) (s : Machine) (tray : List Ticket) (name : List ℕ) wher
 pub laid : (ws : List Waiting) (w : Waiting) → tickets_of (ws ++ (w ∷ [])) ≡ tickets_of ws ++ (ticket_of w ∷ [])
 laid [] w = refl
 laid (v ∷ ws) w = ap (λ z. ticket_of v ∷ z) (laid ws w)
+
+-- the calls that touch no slip
+module _ (m : Meaning) (s t : Machine) (tray : List Ticket) where
+  pub formats : (house : ℕ) (roll opening : List ℕ) (r : Result ℕ Refusal) → MonitorFormats m s house roll opening r t → Answered m s tray (Formats house roll opening) (answer.Count r) t tray
+  formats house roll opening r h es = (_, (r, refl, moved m s t (Formatted house roll opening r) tray tray es h))
+
+  pub attaches : (r : Result ℕ Refusal) → MonitorAttaches m s r t → Answered m s tray Attaches (answer.Count r) t tray
+  attaches r h es = (_, (r, refl, moved m s t (Attached r) tray tray es h))
+
+  pub certifies : (word : List ℕ) (d : RowDraft) (r : Result ℕ Refusal) → MonitorCertifies m s word d r t → Answered m s tray (Certifies word d) (answer.Count r) t tray
+  certifies word d r h es = (_, (r, refl, moved m s t (Certified word d r) tray tray es h))
+
+  pub strikes : (word : List ℕ) (row : ℕ) (r : Result ℕ Refusal) → MonitorStrikes s word row r t → Answered m s tray (Strikes word row) (answer.Count r) t tray
+  strikes word row r h es = (_, (r, refl, moved m s t (Struck word row r) tray tray es h))
+
+  -- a request by another name
+  pub as_asked : (k l : Request) (a : Answer) (now : List Ticket) → k ≡ l → Answered m s tray l a t now → Answered m s tray k a t now
+  as_asked k l a now e h = subst (λ z. Answered m s tray z a t now) (sym e) h
+
+module _ (m : Meaning) (s : Machine) (tray : List Ticket) where
+  pub looks_at_item : (item : ℕ) (r : Result ℕ Refusal) → r ≡ item_seen s item → Answered m s tray (LooksAtItem item) (answer.Code r) s tray
+  looks_at_item item r h es = (_, (r, refl, moved m s s (ItemSeen item r) tray tray es (h, refl)))
+
+  pub looks_at_record : (number : ℕ) (r : Result Record Refusal) → r ≡ record_seen s number → Answered m s tray (LooksAtRecord number) (answer.Record r) s tray
+  looks_at_record number r h es = (_, (r, refl, moved m s s (RecordSeen number r) tray tray es (h, refl)))

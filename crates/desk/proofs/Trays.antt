@@ -6,7 +6,7 @@ use Rattle.std.proofs.lemmas.Bool.{cases_Bool, false≢true, ltb-true, ltb-false
 use Rattle.std.specs.Option.{is_some, unwrap_or}
 use Rattle.monitor.specs.Held.{entered_of}
 use Rattle.desk.specs.declared.tray.Waiting.{Waiting}
-use Rattle.desk.specs.Serving.{ticket_of, tickets_of, waiting, without}
+use Rattle.desk.specs.Serving.{Ticket, ticket_of, tickets_of, waiting, without}
 
 -- what a place that was looked for tells
 module _ (p n : ℕ) (r : Option ℕ) (e : r ≡ cond (ltb p n) (Some p) None) where
@@ -83,3 +83,12 @@ module _ (name : List ℕ) where
             let next : suc (place ws) ≡ place (w ∷ ws) = omega (arith, at_later w ws e) in
             front_goes w ws false e ∙ ap (λ z. ticket_of w ∷ z) (first_goes ws (omega (arith, l, next))) ∙ ap (λ z. tickets_of (remove (w ∷ ws) z)) next)
       ]
+
+-- where no slip waits under a name, the tray is as it was
+pub stays : (ts : List Ticket) (name : List ℕ) → None ≡ waiting ts name → without ts name ≡ ts
+stays [] name e = refl
+stays (t ∷ ts) name e =
+    elim (cases_Bool (bytes_eq t.name name)) [
+      | inl y ↦ absurd (false≢true (ap is_some (e ∙ ap (λ b. cond b (Some t.slip) (waiting ts name)) y)))
+      | inr n ↦ ap (λ b. cond b ts (t ∷ without ts name)) n ∙ ap (λ z. t ∷ z) (stays ts name (e ∙ ap (λ b. cond b (Some t.slip) (waiting ts name)) n))
+    ]

@@ -1,0 +1,57 @@
+use Rattle.std.proofs.Common.{◌≡◌, ◌+◌, ◌++◌, [], ◌∷◌, length, sym, ap, ◌∙◌, arith, rules}
+use Rattle.std.proofs.lemmas.List.{length-append, append_assoc}
+use Rattle.std.specs.Vec.Iter.{into_iter_items}
+use Rattle.monitor.specs.Machine.{Machine, machine}
+use Rattle.books.specs.Meaning.{Meaning}
+use Rattle.desk.specs.Serving.{tickets_of, opened_with}
+use Rattle.desk.proofs.Sessions.{begins, goes_on, served, one_more, none_left}
+use Rattle.desk.proofs.serving.serve.Goals as goal
+
+-- no call was made, and there is room for all
+pub loop-call-init : goal.loop-call-init
+loop-call-init g c =
+    let m : Meaning = g.B.Book.meaning in
+    let s : Machine = machine c.args.monitor.now.stage (g.D.Drive.disk c.args.monitor.now.journal.drive) in
+    (tt, tt, c.into_iter-call-iterator.ensures.into_iter_gives.0, grind arith, omega (arith, c.in_ok-tray.ensures.len), c.in_ok-answers.ensures.len,
+     search rules, search rules,
+     ([], begins m (opened_with s) _ _ c.in_ok-answers.ensures.items (ap tickets_of c.in_ok-tray.ensures.items)))
+
+pub answer-requires : goal.answer-requires
+answer-requires g c =
+    let (a, b, all, left, few, told, room, places, past) = c.loop-call.invariant in
+    record { room = omega (arith, one_more c.loop-call.yielded (into_iter_items c.loop-call.call-iterator) (into_iter_items c.next.new.self) c.args.calls.items c.in-Some.call all c.in-Some.ensures.steps.0, few, room) }
+
+pub push_reserved-requires : goal.push_reserved-requires
+push_reserved-requires g c =
+    let (a, b, all, left, few, told, room, places, past) = c.loop-call.invariant in
+    omega (arith, one_more c.loop-call.yielded (into_iter_items c.loop-call.call-iterator) (into_iter_items c.next.new.self) c.args.calls.items c.in-Some.call all c.in-Some.ensures.steps.0, told, places)
+
+-- one call more was made
+pub loop-call-preserved : goal.loop-call-preserved
+loop-call-preserved g c =
+    let m : Meaning = g.B.Book.meaning in
+    let s0 : Machine = machine c.args.monitor.now.stage (g.D.Drive.disk c.args.monitor.now.journal.drive) in
+    let s : Machine = machine c.loop-call.monitor.stage (g.D.Drive.disk c.loop-call.monitor.journal.drive) in
+    let t : Machine = machine c.answer.new.monitor.stage (g.D.Drive.disk c.answer.new.monitor.journal.drive) in
+    let (a, b, all, left, few, told, room, places, past) = c.loop-call.invariant in
+    let ys = c.loop-call.yielded in
+    let x = c.in-Some.call in
+    let longer : length (ys ++ (x ∷ [])) ≡ length ys + 1 = length-append ys (x ∷ []) in
+    (tt, tt,
+     append_assoc ys (x ∷ []) _ ∙ ap (λ z. ys ++ z) (sym c.in-Some.ensures.steps.0) ∙ all,
+     omega (arith, longer, left, c.in-Some.ensures.steps.1),
+     omega (arith, longer, c.answer.ensures.longer, few),
+     omega (arith, longer, c.push_reserved.ensures.len, told),
+     omega (arith, c.answer.ensures.capacity, room),
+     omega (arith, c.push_reserved.ensures.capacity, places),
+     goes_on m (opened_with s0) ys x _ _ c.answer.result s t _ _ past c.answer.ensures.answered c.push_reserved.ensures.items)
+
+-- all were made
+pub returns-clause-served : goal.returns-clause-served
+returns-clause-served g c =
+    let m : Meaning = g.B.Book.meaning in
+    let s : Machine = machine c.args.monitor.now.stage (g.D.Drive.disk c.args.monitor.now.journal.drive) in
+    let t : Machine = machine c.loop-call.monitor.stage (g.D.Drive.disk c.loop-call.monitor.journal.drive) in
+    let (a, b, all, left, few, told, room, places, past) = c.loop-call.invariant in
+    let full : length c.loop-call.yielded ≡ length c.args.calls.items = omega (arith, left, c.in-None.ensures.steps.0) in
+    served m g.met.B.Book.step_tests g.met.B.Book.step_gives_codes s t c.loop-call.yielded c.args.calls.items _ _ _ all (none_left _ _ _ all full) past
