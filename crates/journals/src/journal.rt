@@ -72,6 +72,13 @@ impl<D: Drive> Journal<D> {
         Journal { drive }
     }
 
+    /// The drive, without its journal.
+    pub fn into_drive(self) -> D
+        ensures value { result ≡ self.drive }
+    {
+        self.drive
+    }
+
     /// How many blocks the drive has.
     pub fn size(&self) -> u64
         ensures value { result ≡ type_size (D.disk self.now.drive) }

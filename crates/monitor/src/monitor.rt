@@ -30,6 +30,18 @@ impl<D: Drive, B: Book> Monitor<D, B> {
         }
     }
 
+    /// The drive, without its monitor.
+    pub fn into_drive(self) -> D
+        ensures value { result ≡ self.journal.drive }
+    {
+        let Monitor {
+            journal,
+            book: _,
+            stage: _,
+        } = self;
+        journal.into_drive()
+    }
+
     /// The stage that the monitor has come to.
     pub fn stage(&self) -> Stage
         ensures value { result ≡ self.now.stage }

@@ -37,6 +37,13 @@ impl<'a> TrialDrive<'a> {
         }
     }
 
+    /// The bytes, for a fresh drive.
+    pub fn into_bytes(self) -> &'a mut [u8]
+        ensures bytes { result.now ≡ (state_of self.entry).bytes }
+    {
+        self.bytes
+    }
+
     /// Turns power off and on again, and takes the next cut number, if one is left.
     pub fn turn_on(&mut self)
         ensures state { state_of self.new ≡ power (state_of self.old) }
