@@ -30,16 +30,17 @@ impl<D: Drive, B: Book> Monitor<D, B> {
         }
     }
 
-    /// The drive, without its monitor.
-    pub fn into_drive(self) -> D
-        ensures value { result ≡ self.journal.drive }
+    /// The drive and the book, without their monitor.
+    pub fn into_parts(self) -> (D, B)
+        ensures drive { result.0 ≡ self.journal.drive }
+        ensures book { result.1 ≡ self.book }
     {
         let Monitor {
             journal,
-            book: _,
+            book,
             stage: _,
         } = self;
-        journal.into_drive()
+        (journal.into_drive(), book)
     }
 
     /// The stage that the monitor has come to.
