@@ -33,7 +33,7 @@ pub struct TypedNote {
 }
 
 /// What a line asks for. Slips and words are bytes of the script.
-#[derive(Clone, Copy)]
+#[derive(Clone, Copy, PartialEq, Eq, Debug)]
 pub enum Command<'a> {
     /// Makes a note or refuses it, and does nothing else with it.
     Note(TypedNote),
@@ -81,7 +81,7 @@ pub enum Command<'a> {
 }
 
 /// What one line of a script says.
-#[derive(Drop)]
+#[derive(PartialEq, Eq, Debug, Drop)]
 pub enum Line<'a> {
     /// A blank line, or only a comment.
     Nothing,

@@ -6,7 +6,7 @@ use crate::line::{BookName, Command, Line};
 use std::alloc::{AllocError, Global};
 
 /// What a script sets up, gathered from all of its lines.
-#[derive(Drop)]
+#[derive(PartialEq, Eq, Debug, Drop)]
 pub struct Setup {
     /// The first book that the script chooses: the rig's.
     pub book: Option<BookName>,
@@ -18,7 +18,7 @@ pub struct Setup {
 }
 
 /// A command with the number of its line, from 1.
-#[derive(Clone, Copy)]
+#[derive(Clone, Copy, PartialEq, Eq, Debug)]
 pub struct Numbered<'a> {
     pub line: u64,
     pub command: Command<'a>,
@@ -26,7 +26,7 @@ pub struct Numbered<'a> {
 
 /// A script that was read: what it sets up, its commands in order, and the number of the bad line that ended the reading,
 /// if one did.
-#[derive(Drop)]
+#[derive(PartialEq, Eq, Debug, Drop)]
 pub struct Script<'a> {
     pub setup: Setup,
     pub commands: Vec<Numbered<'a>>,
