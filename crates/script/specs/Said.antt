@@ -8,30 +8,44 @@ use Rattle.script.specs.declared.line.Command.TheVariants.{Note, Format, Attach,
 use Rattle.script.specs.declared.line.Line.{Line}
 use Rattle.script.specs.declared.line.Line.TheVariants.{Nothing, Book, House, Roll, Opening, Cuts, Asks}
 
--- what a line asks for: a note to be made and no more; to format under a house number; to attach; to enter a note on a slip,
--- by a user and his word; to countersign a slip, likewise; to withdraw it; to certify a row, under a word; to strike a row,
--- likewise; to show an item, or a record
+-- what a line asks for
 pub data Asked : Type 0 where
+  -- that a note is made or refused, and no more
   noting : TypedNote → Asked
+  -- that the drive is formatted, under a house number
   formatting : ℕ → Asked
+  -- that the drive is attached as it stands
   attaching : Asked
+  -- that a note is entered on a slip, by a user with his word
   entering : List ℕ → ℕ → List ℕ → TypedNote → Asked
+  -- that the note of a slip is countersigned, by a user with his word
   countersigning : List ℕ → ℕ → List ℕ → Asked
+  -- that the note of a slip is withdrawn
   withdrawing : List ℕ → Asked
+  -- that a row of the rights is filled, by who gives a word
   certifying : List ℕ → RowDraft → Asked
+  -- that a row of the rights is freed, by who gives a word
   striking : List ℕ → ℕ → Asked
+  -- to see an item
   item_shown : ℕ → Asked
+  -- to see a record of the audit
   record_shown : ℕ → Asked
 
--- what a line says: nothing; the book of the lines below; the house number; more bytes of the roll, more codes of the opening
--- or more cut numbers; or a command
+-- what a line says
 pub data Said : Type 0 where
+  -- nothing: it is blank, or only a comment
   nothing : Said
+  -- which book the lines below it are about
   book_is : BookName → Said
+  -- the house number
   house_is : ℕ → Said
+  -- more bytes of the roll
   more_roll : List ℕ → Said
+  -- more codes of the opening
   more_opening : List ℕ → Said
+  -- more cut numbers
   more_cuts : List ℕ → Said
+  -- what it asks for
   asks : Asked → Said
 
 -- a command as it was read

@@ -12,8 +12,11 @@ pub struct Setup {
     pub book: Option<BookName>,
     /// The house number; 0 if the script has none.
     pub house: u64,
+    /// The bytes of the roll.
     pub roll: Vec<u8>,
+    /// The codes of the opening.
     pub opening: Vec<u64>,
+    /// The cut numbers.
     pub cuts: Vec<u16>,
 }
 
