@@ -17,7 +17,7 @@ mod tests {
     use books::{Book, Draft, procedure_named};
     use ledger::{Balance, Ledger};
     use refusals::StepPlace;
-    use script::run_script;
+    use script::{BookName, Command, Numbered, TypedNote, read_script};
     use std::test::*;
     use stock::{Reels, Stock};
 
@@ -31,21 +31,16 @@ mod tests {
         }
     }
 
-    // The replies to a script, a line each.
-    fn replies(rt: &HostRuntime, script: &[u8]) -> Result<String, Fail> {
-        let mut lines = String::new(rt.alloc());
-        for reply in run_script(rt.alloc(), script)? {
-            lines.push_str(format!(in rt.alloc(); "{reply}\n")?.as_str())?;
-        }
-        Ok(lines)
+    // Whether a script is read to its end and asks for nothing.
+    fn asks_nothing(rt: &HostRuntime, script: &[u8]) -> Result<bool, Fail> {
+        let read = read_script(rt.alloc(), script)?;
+        Ok(read.bad_line.is_none() && read.commands.is_empty())
     }
 
-    // Whether a script is refused at this line, and says no more than that.
+    // Whether a script is bad at this line, and asks for nothing above it.
     fn is_bad_at(rt: &HostRuntime, script: &[u8], line: u64) -> Result<bool, Fail> {
-        let expected = format!(in rt.alloc();
-            "line {line}: refusal 5 (house, no rule), place {line}: this line of the script is not understood\n"
-        )?;
-        Ok(replies(rt, script)?.as_str() == expected.as_str())
+        let read = read_script(rt.alloc(), script)?;
+        Ok(read.bad_line == Some(line) && read.commands.is_empty())
     }
 
     #[test]
@@ -152,19 +147,71 @@ mod tests {
 
     #[test]
     fn scripts_that_are_fine(rt: HostRuntime) -> Result<(), Fail> {
-        assert_eq!(rt; replies(&rt, b"")?.as_str(), "");
+        assert!(rt; asks_nothing(&rt, b"")?);
+        assert!(rt; asks_nothing(&rt, b"\n \t\r\n# a comment\nbook ledger")?);
+        let read = read_script(
+            rt.alloc(),
+            b"book ledger # money\r\n\tnote  receipt 00 8 4500#paid\r\n",
+        )?;
+        assert_eq!(rt; read.bad_line, None);
         assert_eq!(rt;
-            replies(&rt, b"\n \t\r\n# a comment\nbook ledger")?.as_str(),
-            ""
+            read.commands.as_slice(),
+            [Numbered {
+                line: 2,
+                command: Command::Note(TypedNote {
+                    book: BookName::Ledger,
+                    draft: draft(2, 0, 8, 4500),
+                }),
+            }]
+            .as_slice()
+        );
+        Ok(())
+    }
+
+    #[test]
+    fn calls_name_slips_and_words(rt: HostRuntime) -> Result<(), Fail> {
+        let text = b"book stock\nenter s1 3 pin take 1 0 4\ncountersign s1 4 pen\n";
+        let read = read_script(rt.alloc(), text)?;
+        assert_eq!(rt; read.bad_line, None);
+        assert_eq!(rt; read.commands.len(), 2);
+        assert_eq!(rt;
+            read.commands[0].command,
+            Command::Enter {
+                slip: b"s1",
+                user: 3,
+                word: b"pin",
+                note: TypedNote {
+                    book: BookName::Stock,
+                    draft: draft(2, 1, 0, 4),
+                },
+            }
         );
         assert_eq!(rt;
-            replies(
-                &rt,
-                b"book ledger # money\r\n\tnote  receipt 00 8 4500#paid\r\n",
-            )?
-            .as_str(),
-            "line 2: note made: kind 1, procedure 2, a 0, b 8, n 4500\n"
+            read.commands[1],
+            Numbered {
+                line: 3,
+                command: Command::Countersign {
+                    slip: b"s1",
+                    user: 4,
+                    word: b"pen",
+                },
+            }
         );
+        Ok(())
+    }
+
+    #[test]
+    fn a_setup_is_gathered(rt: HostRuntime) -> Result<(), Fail> {
+        let text =
+            b"roll ann bob\nhouse 1\nopening 0x101 0\nbook stock\nbook ledger\nroll\nroll c\n\
+                     cuts 65535 0\nopening 7\nhouse 0XfF\nhouse 2";
+        let read = read_script(rt.alloc(), text)?;
+        assert_eq!(rt; read.bad_line, Some(10), "a capital X is no prefix");
+        assert_eq!(rt; read.setup.book, Some(BookName::Stock));
+        assert_eq!(rt; read.setup.house, 1);
+        assert_eq!(rt; read.setup.roll.as_slice(), b"annbobc".as_slice());
+        assert_eq!(rt; read.setup.opening.as_slice(), [257, 0, 7].as_slice());
+        assert_eq!(rt; read.setup.cuts.as_slice(), [65535, 0].as_slice());
         Ok(())
     }
 
@@ -195,9 +242,23 @@ mod tests {
     }
 
     #[test]
+    fn bad_calls_and_setups(rt: HostRuntime) -> Result<(), Fail> {
+        assert!(rt; is_bad_at(&rt, b"attach", 1)?, "no book is chosen");
+        assert!(rt; is_bad_at(&rt, b"book ledger\nattach 1", 2)?);
+        assert!(rt; is_bad_at(&rt, b"book ledger\nitem 0x", 2)?);
+        assert!(rt; is_bad_at(&rt, b"book ledger\nitem 0xg", 2)?);
+        assert!(rt; is_bad_at(&rt, b"book ledger\nitem 0x10000000000000000", 2)?);
+        assert!(rt; is_bad_at(&rt, b"cuts 1 65536", 1)?);
+        assert!(rt; is_bad_at(&rt, b"opening 1 x", 1)?);
+        assert!(rt; is_bad_at(&rt, b"house", 1)?);
+        assert!(rt; is_bad_at(&rt, b"book stock\ncertify w 0 1 charge 1 1", 2)?);
+        Ok(())
+    }
+
+    #[test]
     fn a_script_of_the_largest_size(rt: HostRuntime) -> Result<(), Fail> {
         let most = vec![in rt.alloc(); b'\n'; 65536]?;
-        assert_eq!(rt; replies(&rt, most.as_slice())?.as_str(), "");
+        assert!(rt; asks_nothing(&rt, most.as_slice())?);
         let more = vec![in rt.alloc(); b'\n'; 65537]?;
         assert!(rt; is_bad_at(&rt, more.as_slice(), 0)?);
         Ok(())

@@ -1,15 +1,14 @@
--- A reading that goes on after some commands.
-use Rattle.std.proofs.Common.{ℕ, ◌+◌, ◌≤◌, Bool, List, ◌++◌, length, arith}
+-- A list of numbers that goes on after some of them, and how many pieces there can be.
+use Rattle.std.proofs.Common.{ℕ, ◌+◌, ◌≤◌, Bool, List, ◌++◌, length, Option, Some, arith}
 use Rattle.std.proofs.lemmas.List.Splits.{length-slice_split}
 use Rattle.std.proofs.lemmas.List.Sums.{count_by-le-length}
 use Rattle.lexer.specs.Pieces.{pieces}
 use Rattle.lexer.proofs.Cuts.{pieces_are_parts}
-use Rattle.script.specs.declared.line.Command.{Command}
-use Rattle.script.specs.Reading.{Reading}
+use Rattle.script.specs.Grammar.{then}
 
--- a reading with some commands before it
-abbrev pub after : List Command → Reading → Reading
-after cs r = record { commands = cs ++ r.commands; bad = r.bad }
+-- numbers with some before them
+abbrev pub after : List ℕ → Option (List ℕ) → Option (List ℕ)
+after ns more = then more (λ ms. Some (ns ++ ms))
 
 -- no more pieces than bytes, and one
 pub pieces_few : (cut : ℕ → Bool) (bs : List ℕ) → length (pieces cut bs) ≤ length bs + 1

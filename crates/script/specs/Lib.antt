@@ -1,3 +1,3 @@
+pub mod Said
 pub mod Grammar
 pub mod Reading
-pub mod Replies

@@ -1,71 +1,84 @@
-ghost use Rattle.std.specs.Prelude.{◌≡◌};
+ghost use Rattle.std.specs.Prelude.{◌≡◌, IfOk};
+ghost use Rattle.std.specs.Option.{option_map};
 ghost use Rattle.lexer.specs.Left.{words_left};
-ghost use Rattle.script.specs.Grammar.{typed_procedure, choice, note_of, said, understood};
+ghost use Rattle.script.specs.Said.{asked_by, said_by as said_by_line};
+ghost use Rattle.script.specs.Grammar.{command, command_line, said, understood};
 
-use crate::line::{BookName, Line, TypedNote};
-use books::{Draft, procedure_named};
-use ledger::Ledger;
-use lexer::{Words, is_text, typed_number, without_comment};
-use stock::Stock;
+use crate::forms::{
+    attach_of, certify_of, countersign_of, enter_of, format_of, item_of, note_of, record_of,
+    strike_of, withdraw_of,
+};
+use crate::line::{BookName, Command, Line};
+use crate::setup_lines::{book_of, cuts_of, house_of, opening_of, roll_of};
+use lexer::{Words, is_text, without_comment};
+use std::alloc::{AllocError, Global};
 
-/// The procedure that a word names in the book, or else types as a number.
-fn procedure_of(book: BookName, word: &[u8]) -> Option<u64>
-    ensures value { result ≡ typed_procedure book word.now }
+/// The command of this name, under the book that is chosen above it.
+// Not a `match` on the name: it would compare byte by byte, and the check does not put that many cases together.
+fn command_of<'a>(book: BookName, name: &[u8], words: Words<'a>) -> Option<Command<'a>>
+    ensures value { option_map asked_by result ≡ command book name.now (words_left words.entry) }
 {
-    // Each book is a type of its own, with constants and an item type, so no enum and no `dyn` stands for both: each arm names one.
-    let named = match book {
-        BookName::Ledger => procedure_named(&Ledger, word),
-        BookName::Stock => procedure_named(&Stock, word),
-    };
-    named.or_else(|| typed_number(word))
+    if name == b"note".as_slice() {
+        note_of(book, words)
+    } else if name == b"enter".as_slice() {
+        enter_of(book, words)
+    } else if name == b"countersign".as_slice() {
+        countersign_of(words)
+    } else if name == b"withdraw".as_slice() {
+        withdraw_of(words)
+    } else if name == b"certify".as_slice() {
+        certify_of(book, words)
+    } else if name == b"strike".as_slice() {
+        strike_of(words)
+    } else if name == b"item".as_slice() {
+        item_of(words)
+    } else if name == b"record".as_slice() {
+        record_of(words)
+    } else if name == b"format".as_slice() {
+        format_of(words)
+    } else if name == b"attach".as_slice() {
+        attach_of(words)
+    } else {
+        None
+    }
 }
 
-/// The rest of a line that begins with `book`.
-fn choice_of(mut words: Words) -> Option<Line>
-    ensures value { result ≡ choice (words_left words.entry) }
+/// A line that asks for what its command says. It needs a book that was chosen above it.
+fn asks_by<'a>(book: Option<BookName>, name: &[u8], words: Words<'a>) -> Option<Line<'a>>
+    ensures value { option_map said_by_line result ≡ command_line book name.now (words_left words.entry) }
 {
-    let book = BookName::named(words.next()?)?;
-    words.next().is_none().then_some(Line::Chooses(book))
+    Some(Line::Asks(command_of(book?, name, words)?))
 }
 
-/// The rest of a line that begins with `note`.
-fn note_from(book: BookName, mut words: Words) -> Option<Line>
-    ensures value { result ≡ note_of book (words_left words.entry) }
-{
-    let procedure = procedure_of(book, words.next()?)?;
-    let a = typed_number(words.next()?)?;
-    let b = typed_number(words.next()?)?;
-    let amount = typed_number(words.next()?)?;
-    let draft = Draft {
-        procedure,
-        a,
-        b,
-        amount,
-    };
-    words
-        .next()
-        .is_none()
-        .then_some(Line::Types(TypedNote { book, draft }))
-}
-
-/// What a line says by its words, under the book that is chosen above it.
-fn said_by(book: Option<BookName>, mut words: Words) -> Option<Line>
-    ensures value { result ≡ said book (words_left words.entry) }
+/// What a line says by its words, under the book that is chosen above it. It fails only for want of memory.
+fn said_by<'a>(
+    heap: Global,
+    book: Option<BookName>,
+    mut words: Words<'a>,
+) -> Result<Option<Line<'a>>, AllocError>
+    ensures value { IfOk result (λ l. option_map said_by_line l ≡ said book (words_left words.entry)) }
 {
     match words.next() {
-        None => Some(Line::Nothing),
-        Some(b"book") => choice_of(words),
-        Some(b"note") => note_from(book?, words),
-        Some(_) => None,
+        None => Ok(Some(Line::Nothing)),
+        Some(b"book") => Ok(book_of(words)),
+        Some(b"house") => Ok(house_of(words)),
+        Some(b"roll") => roll_of(heap, words),
+        Some(b"opening") => opening_of(heap, words),
+        Some(b"cuts") => cuts_of(heap, words),
+        Some(name) => Ok(asks_by(book, name, words)),
     }
 }
 
-/// What a line says, under the book that is chosen above it; none where it is bad.
-pub fn understand(book: Option<BookName>, line: &[u8]) -> Option<Line>
-    ensures value { result ≡ understood book line.now }
+/// What a line says, under the book that is chosen above it; none where it is bad. It fails only for want of memory.
+pub fn understand<'a>(
+    heap: Global,
+    book: Option<BookName>,
+    line: &'a [u8],
+) -> Result<Option<Line<'a>>, AllocError>
+    ensures value { IfOk result (λ l. option_map said_by_line l ≡ understood book line.now) }
 {
     if !is_text(line) {
-        return None;
+        return Ok(None);
     }
-    said_by(book, Words::of(without_comment(line)))
+    said_by(heap, book, Words::of(without_comment(line)))
 }

@@ -1,6 +1,7 @@
 ghost use Rattle.std.specs.Prelude.{◌≡◌};
 
 use books::Draft;
+use carrying::RowDraft;
 
 /// The books that a script can choose.
 #[derive(Clone, Copy, PartialEq, Eq, Debug)]
@@ -31,20 +32,84 @@ pub struct TypedNote {
     pub draft: Draft,
 }
 
-/// What one line of a script says.
+/// What a line asks for. Slips and words are bytes of the script.
 #[derive(Clone, Copy, PartialEq, Eq, Debug)]
-pub enum Line {
-    /// A blank line, or only a comment.
-    Nothing,
-    /// The book of the notes below.
-    Chooses(BookName),
-    /// A note.
-    Types(TypedNote),
+pub enum Command<'a> {
+    /// Makes a note or refuses it, and does nothing else with it.
+    Note(TypedNote),
+    /// Formats the drive under a house number.
+    Format {
+        house: u64,
+    },
+    /// Attaches the drive as it stands.
+    Attach,
+    /// Enters a note: from then on the slip names it.
+    Enter {
+        slip: &'a [u8],
+        user: u64,
+        word: &'a [u8],
+        note: TypedNote,
+    },
+    /// Countersigns the note of a slip.
+    Countersign {
+        slip: &'a [u8],
+        user: u64,
+        word: &'a [u8],
+    },
+    /// Withdraws the note of a slip.
+    Withdraw {
+        slip: &'a [u8],
+    },
+    /// Fills a row of the rights.
+    Certify {
+        word: &'a [u8],
+        row: RowDraft,
+    },
+    /// Frees a row of the rights.
+    Strike {
+        word: &'a [u8],
+        row: u64,
+    },
+    /// Shows an item.
+    Item {
+        item: u64,
+    },
+    /// Shows a record of the audit.
+    Record {
+        number: u64,
+    },
 }
 
-/// A typed note with the number of its line, from 1.
-#[derive(Clone, Copy, PartialEq, Eq, Debug)]
-pub struct Command {
-    pub line: u64,
-    pub typed: TypedNote,
+/// What one line of a script says.
+#[derive(PartialEq, Eq, Debug, Drop)]
+pub enum Line<'a> {
+    /// A blank line, or only a comment.
+    Nothing,
+    /// The book of the lines below.
+    Book(BookName),
+    /// The house number.
+    House(u64),
+    /// More of the roll: the bytes of its words.
+    Roll(Vec<u8>),
+    /// More codes of the opening.
+    Opening(Vec<u64>),
+    /// More cut numbers.
+    Cuts(Vec<u16>),
+    /// A command.
+    Asks(Command<'a>),
+}
+
+impl Line<'_> {
+    ghost use Rattle.script.specs.Said.{said_by};
+    ghost use Rattle.script.specs.Reading.{book_after};
+
+    /// The book that is chosen below the line.
+    pub(crate) fn book_below(&self, book: Option<BookName>) -> Option<BookName>
+        ensures value { result ≡ book_after book (said_by self.now) }
+    {
+        match self {
+            Line::Book(name) => Some(*name),
+            _ => book,
+        }
+    }
 }

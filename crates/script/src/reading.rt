@@ -2,7 +2,6 @@ ghost use Rattle.std.specs.Prelude.{◌≡◌, IfOk};
 ghost use Rattle.script.specs.Reading.{script_reading, contents};
 
 use crate::grammar::understand;
-use crate::line::{Command, Line};
 use crate::script::Script;
 use lexer::Lines;
 use std::alloc::{AllocError, Global};
@@ -11,33 +10,22 @@ use std::alloc::{AllocError, Global};
 const LONGEST: usize = 65_536;
 
 /// Reads a script up to its first bad line. It fails only for want of memory.
-pub fn read_script(heap: Global, text: &[u8]) -> Result<Script, AllocError>
+pub fn read_script<'a>(heap: Global, text: &'a [u8]) -> Result<Script<'a>, AllocError>
     ensures reads { IfOk result (λ s. contents s ≡ script_reading text.now) }
 {
-    let mut commands = Vec::new(heap);
+    let mut script = Script::new(heap);
     if text.len() > LONGEST {
-        return Ok(Script {
-            commands,
-            bad_line: Some(0),
-        });
+        script.bad_line = Some(0);
+        return Ok(script);
     }
     let mut book = None;
     for (number, line) in (1u64..).zip(Lines::of(text)) {
-        match understand(book, line) {
-            None => return Ok(Script {
-                commands,
-                bad_line: Some(number),
-            }),
-            Some(Line::Nothing) => {}
-            Some(Line::Chooses(name)) => book = Some(name),
-            Some(Line::Types(typed)) => commands.push(Command {
-                line: number,
-                typed,
-            })?,
-        }
+        let Some(said) = understand(heap, book, line)? else {
+            script.bad_line = Some(number);
+            return Ok(script);
+        };
+        book = said.book_below(book);
+        script.add(number, said)?;
     }
-    Ok(Script {
-        commands,
-        bad_line: None,
-    })
+    Ok(script)
 }

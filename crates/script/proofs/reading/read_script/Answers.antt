@@ -11,6 +11,6 @@ loop-number-init c =
     let left : lines_left (zip_second it) ≡ lines c.args.text.now = cc in
     let first : (zip_first it).start ≡ 1 = cc in
     record {
-      whole = rw (c.new-commands.ensures.items, first, left) refl;
+      whole = rw (c.new-script.ensures.value, first, left) refl;
       numbers_last = omega (arith, pieces_few newline c.args.text.now, ap length left);
     }

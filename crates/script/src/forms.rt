@@ -1,0 +1,186 @@
+ghost use Rattle.std.specs.Prelude.{◌≡◌};
+ghost use Rattle.std.specs.Option.{option_map};
+ghost use Rattle.lexer.specs.Left.{words_left};
+ghost use Rattle.script.specs.Said.{asked_by};
+ghost use Rattle.script.specs.Grammar.{typed_procedure, typed_note as note_by_words, typed_row as row_by_words, note_form, format_form, attach_form, enter_form, countersign_form, withdraw_form, certify_form, strike_form, item_form, record_form};
+
+use crate::line::{BookName, Command, TypedNote};
+use books::{Draft, procedure_named};
+use carrying::RowDraft;
+use ledger::Ledger;
+use lexer::{Words, typed_number};
+use stock::Stock;
+
+/// The procedure that a word names in the book, or else types as a number.
+fn procedure_of(book: BookName, word: &[u8]) -> Option<u64>
+    ensures value { result ≡ typed_procedure book word.now }
+{
+    // Each book is a type of its own, with constants and an item type, so no enum and no `dyn` stands for both: each arm names one.
+    let named = match book {
+        BookName::Ledger => procedure_named(&Ledger, word),
+        BookName::Stock => procedure_named(&Stock, word),
+    };
+    named.or_else(|| typed_number(word))
+}
+
+/// The note that four words type.
+fn typed_note(
+    book: BookName,
+    procedure: &[u8],
+    a: &[u8],
+    b: &[u8],
+    amount: &[u8],
+) -> Option<TypedNote>
+    ensures value { result ≡ note_by_words book procedure.now a.now b.now amount.now }
+{
+    let draft = Draft {
+        procedure: procedure_of(book, procedure)?,
+        a: typed_number(a)?,
+        b: typed_number(b)?,
+        amount: typed_number(amount)?,
+    };
+    Some(TypedNote { book, draft })
+}
+
+/// What follows `note`.
+pub fn note_of<'a>(book: BookName, mut words: Words) -> Option<Command<'a>>
+    ensures value { option_map asked_by result ≡ note_form book (words_left words.entry) }
+{
+    let procedure = words.next()?;
+    let a = words.next()?;
+    let b = words.next()?;
+    let amount = words.next()?;
+    let None = words.next() else { return None };
+    Some(Command::Note(typed_note(book, procedure, a, b, amount)?))
+}
+
+/// What follows `format`.
+pub fn format_of<'a>(mut words: Words) -> Option<Command<'a>>
+    ensures value { option_map asked_by result ≡ format_form (words_left words.entry) }
+{
+    let house = words.next()?;
+    let None = words.next() else { return None };
+    Some(Command::Format {
+        house: typed_number(house)?,
+    })
+}
+
+/// What follows `attach`: nothing.
+pub fn attach_of<'a>(mut words: Words) -> Option<Command<'a>>
+    ensures value { option_map asked_by result ≡ attach_form (words_left words.entry) }
+{
+    words.next().is_none().then_some(Command::Attach)
+}
+
+/// What follows `enter`.
+pub fn enter_of<'a>(book: BookName, mut words: Words<'a>) -> Option<Command<'a>>
+    ensures value { option_map asked_by result ≡ enter_form book (words_left words.entry) }
+{
+    let slip = words.next()?;
+    let user = words.next()?;
+    let word = words.next()?;
+    let procedure = words.next()?;
+    let a = words.next()?;
+    let b = words.next()?;
+    let amount = words.next()?;
+    let None = words.next() else { return None };
+    Some(Command::Enter {
+        slip,
+        user: typed_number(user)?,
+        word,
+        note: typed_note(book, procedure, a, b, amount)?,
+    })
+}
+
+/// What follows `countersign`.
+pub fn countersign_of<'a>(mut words: Words<'a>) -> Option<Command<'a>>
+    ensures value { option_map asked_by result ≡ countersign_form (words_left words.entry) }
+{
+    let slip = words.next()?;
+    let user = words.next()?;
+    let word = words.next()?;
+    let None = words.next() else { return None };
+    Some(Command::Countersign {
+        slip,
+        user: typed_number(user)?,
+        word,
+    })
+}
+
+/// What follows `withdraw`.
+pub fn withdraw_of<'a>(mut words: Words<'a>) -> Option<Command<'a>>
+    ensures value { option_map asked_by result ≡ withdraw_form (words_left words.entry) }
+{
+    let slip = words.next()?;
+    words.next().is_none().then_some(Command::Withdraw { slip })
+}
+
+/// The row that five words type.
+fn typed_row(
+    book: BookName,
+    row: &[u8],
+    user: &[u8],
+    procedure: &[u8],
+    role: &[u8],
+    mask: &[u8],
+) -> Option<RowDraft>
+    ensures value { result ≡ row_by_words book row.now user.now procedure.now role.now mask.now }
+{
+    Some(RowDraft {
+        row: typed_number(row)?,
+        user: typed_number(user)?,
+        procedure: procedure_of(book, procedure)?,
+        role: typed_number(role)?,
+        mask: typed_number(mask)?,
+    })
+}
+
+/// What follows `certify`.
+pub fn certify_of<'a>(book: BookName, mut words: Words<'a>) -> Option<Command<'a>>
+    ensures value { option_map asked_by result ≡ certify_form book (words_left words.entry) }
+{
+    let word = words.next()?;
+    let row = words.next()?;
+    let user = words.next()?;
+    let procedure = words.next()?;
+    let role = words.next()?;
+    let mask = words.next()?;
+    let None = words.next() else { return None };
+    let row = typed_row(book, row, user, procedure, role, mask)?;
+    Some(Command::Certify { word, row })
+}
+
+/// What follows `strike`.
+pub fn strike_of<'a>(mut words: Words<'a>) -> Option<Command<'a>>
+    ensures value { option_map asked_by result ≡ strike_form (words_left words.entry) }
+{
+    let word = words.next()?;
+    let row = words.next()?;
+    let None = words.next() else { return None };
+    Some(Command::Strike {
+        word,
+        row: typed_number(row)?,
+    })
+}
+
+/// What follows `item`.
+pub fn item_of<'a>(mut words: Words) -> Option<Command<'a>>
+    ensures value { option_map asked_by result ≡ item_form (words_left words.entry) }
+{
+    let item = words.next()?;
+    let None = words.next() else { return None };
+    Some(Command::Item {
+        item: typed_number(item)?,
+    })
+}
+
+/// What follows `record`.
+pub fn record_of<'a>(mut words: Words) -> Option<Command<'a>>
+    ensures value { option_map asked_by result ≡ record_form (words_left words.entry) }
+{
+    let number = words.next()?;
+    let None = words.next() else { return None };
+    Some(Command::Record {
+        number: typed_number(number)?,
+    })
+}

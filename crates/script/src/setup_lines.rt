@@ -1,0 +1,73 @@
+ghost use Rattle.std.specs.Prelude.{◌≡◌, IfOk};
+ghost use Rattle.std.specs.Option.{option_map};
+ghost use Rattle.lexer.specs.Left.{words_left};
+ghost use Rattle.script.specs.Said.{said_by};
+ghost use Rattle.script.specs.Grammar.{cut_typed as cut_by_word, book_line, house_line, roll_line, opening_line, cuts_line};
+
+use crate::line::{BookName, Line};
+use lexer::{Words, typed_number};
+use std::alloc::{AllocError, Global};
+
+/// What follows `book`.
+pub fn book_of<'a>(mut words: Words) -> Option<Line<'a>>
+    ensures value { option_map said_by result ≡ book_line (words_left words.entry) }
+{
+    let name = words.next()?;
+    let None = words.next() else { return None };
+    Some(Line::Book(BookName::named(name)?))
+}
+
+/// What follows `house`.
+pub fn house_of<'a>(mut words: Words) -> Option<Line<'a>>
+    ensures value { option_map said_by result ≡ house_line (words_left words.entry) }
+{
+    let number = words.next()?;
+    let None = words.next() else { return None };
+    Some(Line::House(typed_number(number)?))
+}
+
+/// What follows `roll`. It fails only for want of memory.
+pub fn roll_of<'a>(heap: Global, words: Words) -> Result<Option<Line<'a>>, AllocError>
+    ensures value { IfOk result (λ l. option_map said_by l ≡ roll_line (words_left words.entry)) }
+{
+    let mut roll = Vec::new(heap);
+    for word in words {
+        roll.extend_from_slice(word)?;
+    }
+    Ok(Some(Line::Roll(roll)))
+}
+
+/// What follows `opening`. It fails only for want of memory.
+pub fn opening_of<'a>(heap: Global, words: Words) -> Result<Option<Line<'a>>, AllocError>
+    ensures value { IfOk result (λ l. option_map said_by l ≡ opening_line (words_left words.entry)) }
+{
+    let mut codes = Vec::new(heap);
+    for word in words {
+        let Some(code) = typed_number(word) else {
+            return Ok(None);
+        };
+        codes.push(code)?;
+    }
+    Ok(Some(Line::Opening(codes)))
+}
+
+/// The cut number that a word types.
+fn cut_typed(word: &[u8]) -> Option<u16>
+    ensures value { result ≡ cut_by_word word.now }
+{
+    u16::try_from(typed_number(word)?).ok()
+}
+
+/// What follows `cuts`. It fails only for want of memory.
+pub fn cuts_of<'a>(heap: Global, words: Words) -> Result<Option<Line<'a>>, AllocError>
+    ensures value { IfOk result (λ l. option_map said_by l ≡ cuts_line (words_left words.entry)) }
+{
+    let mut cuts = Vec::new(heap);
+    for word in words {
+        let Some(cut) = cut_typed(word) else {
+            return Ok(None);
+        };
+        cuts.push(cut)?;
+    }
+    Ok(Some(Line::Cuts(cuts)))
+}
