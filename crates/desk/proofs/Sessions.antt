@@ -24,11 +24,12 @@ module _ (m : Meaning) (w : Desk) where
       → Answered m s ts (request_of c) a t us → bs ≡ as' ++ (a ∷ [])
       → (fs : List Event) × Session m w (map request_of (ys ++ (c ∷ []))) bs (record { machine = t; tray = us; happened = fs })
   goes_on ys c as' bs a s t ts us h k e =
-      let next = k h.0 in
-      (next.0,
-      subst (λ z. Session m w z bs (record { machine = t; tray = us; happened = next.0 })) (sym (map-append request_of ys (c ∷ [])))
-      (subst (λ z. Session m w (map request_of ys ++ (request_of c ∷ [])) z (record { machine = t; tray = us; happened = next.0 })) (sym e)
-      (then (request_of c) a h.1 next.1)))
+      let next = k h.0 in (
+        next.0,
+        subst (λ z. Session m w z bs (record { machine = t; tray = us; happened = next.0 })) (sym (map-append request_of ys (c ∷ [])))
+            (subst (λ z. Session m w (map request_of ys ++ (request_of c ∷ [])) z (record { machine = t; tray = us; happened = next.0 })) (sym e)
+            (then (request_of c) a h.1 next.1)),
+      )
 
 module _ (m : Meaning) (es : List Event) (u v : Desk) (a : Answer) (h : History m (u.happened ++ es) u.machine) where
   -- a call of the monitor extends the history

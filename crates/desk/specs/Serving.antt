@@ -121,7 +121,7 @@ Answered m s tray c a t tray' =
 pub data Session (m : Meaning) (w : Desk) : List Request → List Answer → Desk → Type 0 where
   begun : Session m w [] [] w
   then : {cs : List Request} {rs : List Answer} {u v : Desk} (c : Request) (a : Answer)
-    → Session m w cs rs u → Serves m u c a v → Session m w (cs ++ (c ∷ [])) (rs ++ (a ∷ [])) v
+      → Session m w cs rs u → Serves m u c a v → Session m w (cs ++ (c ∷ [])) (rs ++ (a ∷ [])) v
 
 -- what serving promises: s is the monitor before, t after. The calls were made one after another with these answers; whatever
 -- history led to the monitor before, what happened extends it to the monitor after; and the law holds of that history

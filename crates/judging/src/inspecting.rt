@@ -1,11 +1,11 @@
 ghost use Rattle.std.specs.Prelude.{◌≡◌, Err};
 ghost use Rattle.judging.specs.Inspects.{Inspects, unfinished_for};
 
-use crate::judge::judge;
+use crate::judge::{judge, power_lost};
 use books::Book;
 use drives::Drive;
 use journals::{FinishFault, Journal};
-use refusals::{PowerPlace, Reason, Refusal};
+use refusals::{Reason, Refusal};
 
 /// The refusal where finishing did not end.
 fn unfinished(fault: FinishFault) -> Refusal
@@ -13,7 +13,7 @@ fn unfinished(fault: FinishFault) -> Refusal
 {
     match fault {
         FinishFault::Unlawful => Refusal::at(Reason::BadCommitBlock, 0),
-        FinishFault::Off | FinishFault::PowerLost => Refusal::power_lost(PowerPlace::Starting),
+        FinishFault::Off | FinishFault::PowerLost => power_lost(),
     }
 }
 
@@ -26,7 +26,7 @@ pub fn inspect<D: Drive, B: Book>(journal: &mut Journal<D>, book: &B) -> Result<
     if size < 35 || size > 1024 {
         return Err(Refusal::at(Reason::BadSize, size));
     }
-    journal.power().map_err(|_| Refusal::power_lost(PowerPlace::Starting))?;
+    journal.power().map_err(|_| power_lost())?;
     journal.finish().map_err(unfinished)?;
     judge(journal, book)
 }

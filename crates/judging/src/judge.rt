@@ -1,4 +1,6 @@
 ghost use Rattle.std.specs.Prelude.{◌≡◌, ℕ, ◌+◌, ◌<◌, ◌≤◌, true, Ok, Err, MatchResult};
+ghost use Rattle.refusals.specs.declared.power_place.PowerPlace.TheVariants.{Starting};
+ghost use Rattle.refusals.specs.Refused.{lost_at};
 ghost use Rattle.drives.specs.Disk.{size};
 ghost use Rattle.journals.specs.Redo.{home};
 ghost use Rattle.carrying.specs.Standing.{standing_of};
@@ -15,6 +17,13 @@ use image::{Part, codes_blocks, first_differing, read_part, rows_blocks};
 use journals::Journal;
 use refusals::{PowerPlace, Reason, Refusal};
 
+/// Power was lost while the drive was started.
+pub(crate) fn power_lost() -> Refusal
+    ensures value { result ≡ lost_at Starting }
+{
+    Refusal::power_lost(PowerPlace::Starting)
+}
+
 /// A journal over a drive that is on and has a lawful size, so that no read of a block that it has fails.
 #[derive(Drop)]
 struct Readable<'a, D: Drive> {
@@ -30,14 +39,14 @@ impl<'a, D: Drive> Readable<'a, D> {
         requires within { block < size (D.disk self.now.journal.now.drive) }
         ensures found { MatchResult result (λ x. x ≡ at (home (D.disk self.now.journal.now.drive).blocks) block) (λ _. ⊥) }
     {
-        self.journal.read(block).map_err(|_| Refusal::power_lost(PowerPlace::Starting))
+        self.journal.read(block).map_err(|_| power_lost())
     }
 
     /// What a part of the image holds.
     fn read_blocks(&self, part: Part) -> Result<[[u8; 64]; 8], Refusal>
         ensures found { MatchResult result (λ xs. xs ≡ blocks_at (home (D.disk self.now.journal.now.drive).blocks) (first_block part) 8) (λ _. ⊥) }
     {
-        read_part(self.journal, part).map_err(|_| Refusal::power_lost(PowerPlace::Starting))
+        read_part(self.journal, part).map_err(|_| power_lost())
     }
 
     /// Carries out the records, from the first on.

@@ -11,10 +11,17 @@ use Rattle.desk.proofs.serving.serve.Goals as goal
 pub loop-call-init : goal.loop-call-init
 loop-call-init g c =
     let m : Meaning = g.B.Book.meaning in
-    let s : Machine = machine c.args.monitor.now.stage (g.D.Drive.disk c.args.monitor.now.journal.drive) in
-    (tt, tt, c.into_iter-call-iterator.ensures.into_iter_gives.0, grind arith, omega (arith, c.in_ok-tray.ensures.len), c.in_ok-answers.ensures.len,
-     search rules, search rules,
-     ([], begins m (opened_with s) _ _ c.in_ok-answers.ensures.items (ap tickets_of c.in_ok-tray.ensures.items)))
+    let s : Machine = machine c.args.monitor.now.stage (g.D.Drive.disk c.args.monitor.now.journal.drive) in (
+      tt,
+      tt,
+      c.into_iter-call-iterator.ensures.into_iter_gives.0,
+      grind arith,
+      omega (arith, c.in_ok-tray.ensures.len),
+      c.in_ok-answers.ensures.len,
+      search rules,
+      search rules,
+      ([], begins m (opened_with s) _ _ c.in_ok-answers.ensures.items (ap tickets_of c.in_ok-tray.ensures.items)),
+    )
 
 pub answer-requires : goal.answer-requires
 answer-requires g c =
@@ -36,15 +43,17 @@ loop-call-preserved g c =
     let (a, b, all, left, few, told, room, places, past) = c.loop-call.invariant in
     let ys = c.loop-call.yielded in
     let x = c.in-Some.call in
-    let longer : length (ys ++ (x ∷ [])) ≡ length ys + 1 = length-append ys (x ∷ []) in
-    (tt, tt,
-     append_assoc ys (x ∷ []) _ ∙ ap (λ z. ys ++ z) (sym c.in-Some.ensures.steps.0) ∙ all,
-     omega (arith, longer, left, c.in-Some.ensures.steps.1),
-     omega (arith, longer, c.answer.ensures.longer, few),
-     omega (arith, longer, c.push_reserved.ensures.len, told),
-     omega (arith, c.answer.ensures.capacity, room),
-     omega (arith, c.push_reserved.ensures.capacity, places),
-     goes_on m (opened_with s0) ys x _ _ c.answer.result s t _ _ past c.answer.ensures.answered c.push_reserved.ensures.items)
+    let longer : length (ys ++ (x ∷ [])) ≡ length ys + 1 = length-append ys (x ∷ []) in (
+      tt,
+      tt,
+      append_assoc ys (x ∷ []) _ ∙ ap (λ z. ys ++ z) (sym c.in-Some.ensures.steps.0) ∙ all,
+      omega (arith, longer, left, c.in-Some.ensures.steps.1),
+      omega (arith, longer, c.answer.ensures.longer, few),
+      omega (arith, longer, c.push_reserved.ensures.len, told),
+      omega (arith, c.answer.ensures.capacity, room),
+      omega (arith, c.push_reserved.ensures.capacity, places),
+      goes_on m (opened_with s0) ys x _ _ c.answer.result s t _ _ past c.answer.ensures.answered c.push_reserved.ensures.items,
+    )
 
 -- all were made
 pub returns-clause-served : goal.returns-clause-served
