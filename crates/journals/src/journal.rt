@@ -72,6 +72,13 @@ impl<D: Drive> Journal<D> {
         Journal { drive }
     }
 
+    /// The drive, to look at.
+    pub fn drive(&self) -> &D
+        ensures value { result.now ≡ self.now.drive }
+    {
+        &self.drive
+    }
+
     /// The drive, without its journal.
     pub fn into_drive(self) -> D
         ensures value { result ≡ self.drive }

@@ -30,6 +30,13 @@ impl<D: Drive, B: Book> Monitor<D, B> {
         }
     }
 
+    /// The drive, to look at.
+    pub fn drive(&self) -> &D
+        ensures value { result.now ≡ self.now.journal.drive }
+    {
+        self.journal.drive()
+    }
+
     /// The drive and the book, without their monitor.
     pub fn into_parts(self) -> (D, B)
         ensures drive { result.0 ≡ self.journal.drive }
