@@ -43,7 +43,7 @@ fn typed_note(
 }
 
 /// What follows `note`.
-pub fn note_of<'a>(book: BookName, mut words: Words) -> Option<Command<'a>>
+pub(crate) fn note_of<'a>(book: BookName, mut words: Words) -> Option<Command<'a>>
     ensures value { option_map asked_by result ≡ note_form book (words_left words.entry) }
 {
     let procedure = words.next()?;
@@ -55,7 +55,7 @@ pub fn note_of<'a>(book: BookName, mut words: Words) -> Option<Command<'a>>
 }
 
 /// What follows `format`.
-pub fn format_of<'a>(mut words: Words) -> Option<Command<'a>>
+pub(crate) fn format_of<'a>(mut words: Words) -> Option<Command<'a>>
     ensures value { option_map asked_by result ≡ format_form (words_left words.entry) }
 {
     let house = words.next()?;
@@ -66,14 +66,14 @@ pub fn format_of<'a>(mut words: Words) -> Option<Command<'a>>
 }
 
 /// What follows `attach`: nothing.
-pub fn attach_of<'a>(mut words: Words) -> Option<Command<'a>>
+pub(crate) fn attach_of<'a>(mut words: Words) -> Option<Command<'a>>
     ensures value { option_map asked_by result ≡ attach_form (words_left words.entry) }
 {
     words.next().is_none().then_some(Command::Attach)
 }
 
 /// What follows `enter`.
-pub fn enter_of<'a>(book: BookName, mut words: Words<'a>) -> Option<Command<'a>>
+pub(crate) fn enter_of<'a>(book: BookName, mut words: Words<'a>) -> Option<Command<'a>>
     ensures value { option_map asked_by result ≡ enter_form book (words_left words.entry) }
 {
     let slip = words.next()?;
@@ -93,7 +93,7 @@ pub fn enter_of<'a>(book: BookName, mut words: Words<'a>) -> Option<Command<'a>>
 }
 
 /// What follows `countersign`.
-pub fn countersign_of<'a>(mut words: Words<'a>) -> Option<Command<'a>>
+pub(crate) fn countersign_of<'a>(mut words: Words<'a>) -> Option<Command<'a>>
     ensures value { option_map asked_by result ≡ countersign_form (words_left words.entry) }
 {
     let slip = words.next()?;
@@ -108,7 +108,7 @@ pub fn countersign_of<'a>(mut words: Words<'a>) -> Option<Command<'a>>
 }
 
 /// What follows `withdraw`.
-pub fn withdraw_of<'a>(mut words: Words<'a>) -> Option<Command<'a>>
+pub(crate) fn withdraw_of<'a>(mut words: Words<'a>) -> Option<Command<'a>>
     ensures value { option_map asked_by result ≡ withdraw_form (words_left words.entry) }
 {
     let slip = words.next()?;
@@ -136,7 +136,7 @@ fn typed_row(
 }
 
 /// What follows `certify`.
-pub fn certify_of<'a>(book: BookName, mut words: Words<'a>) -> Option<Command<'a>>
+pub(crate) fn certify_of<'a>(book: BookName, mut words: Words<'a>) -> Option<Command<'a>>
     ensures value { option_map asked_by result ≡ certify_form book (words_left words.entry) }
 {
     let word = words.next()?;
@@ -151,7 +151,7 @@ pub fn certify_of<'a>(book: BookName, mut words: Words<'a>) -> Option<Command<'a
 }
 
 /// What follows `strike`.
-pub fn strike_of<'a>(mut words: Words<'a>) -> Option<Command<'a>>
+pub(crate) fn strike_of<'a>(mut words: Words<'a>) -> Option<Command<'a>>
     ensures value { option_map asked_by result ≡ strike_form (words_left words.entry) }
 {
     let word = words.next()?;
@@ -164,7 +164,7 @@ pub fn strike_of<'a>(mut words: Words<'a>) -> Option<Command<'a>>
 }
 
 /// What follows `item`.
-pub fn item_of<'a>(mut words: Words) -> Option<Command<'a>>
+pub(crate) fn item_of<'a>(mut words: Words) -> Option<Command<'a>>
     ensures value { option_map asked_by result ≡ item_form (words_left words.entry) }
 {
     let item = words.next()?;
@@ -175,7 +175,7 @@ pub fn item_of<'a>(mut words: Words) -> Option<Command<'a>>
 }
 
 /// What follows `record`.
-pub fn record_of<'a>(mut words: Words) -> Option<Command<'a>>
+pub(crate) fn record_of<'a>(mut words: Words) -> Option<Command<'a>>
     ensures value { option_map asked_by result ≡ record_form (words_left words.entry) }
 {
     let number = words.next()?;

@@ -9,7 +9,7 @@ use lexer::{Words, typed_number};
 use std::alloc::{AllocError, Global};
 
 /// What follows `book`.
-pub fn book_of<'a>(mut words: Words) -> Option<Line<'a>>
+pub(crate) fn book_of<'a>(mut words: Words) -> Option<Line<'a>>
     ensures value { option_map said_by result ≡ book_line (words_left words.entry) }
 {
     let name = words.next()?;
@@ -18,7 +18,7 @@ pub fn book_of<'a>(mut words: Words) -> Option<Line<'a>>
 }
 
 /// What follows `house`.
-pub fn house_of<'a>(mut words: Words) -> Option<Line<'a>>
+pub(crate) fn house_of<'a>(mut words: Words) -> Option<Line<'a>>
     ensures value { option_map said_by result ≡ house_line (words_left words.entry) }
 {
     let number = words.next()?;
@@ -27,7 +27,7 @@ pub fn house_of<'a>(mut words: Words) -> Option<Line<'a>>
 }
 
 /// What follows `roll`. It fails only for want of memory.
-pub fn roll_of<'a>(heap: Global, words: Words) -> Result<Option<Line<'a>>, AllocError>
+pub(crate) fn roll_of<'a>(heap: Global, words: Words) -> Result<Option<Line<'a>>, AllocError>
     ensures value { IfOk result (λ l. option_map said_by l ≡ roll_line (words_left words.entry)) }
 {
     let mut roll = Vec::new(heap);
@@ -38,7 +38,7 @@ pub fn roll_of<'a>(heap: Global, words: Words) -> Result<Option<Line<'a>>, Alloc
 }
 
 /// What follows `opening`. It fails only for want of memory.
-pub fn opening_of<'a>(heap: Global, words: Words) -> Result<Option<Line<'a>>, AllocError>
+pub(crate) fn opening_of<'a>(heap: Global, words: Words) -> Result<Option<Line<'a>>, AllocError>
     ensures value { IfOk result (λ l. option_map said_by l ≡ opening_line (words_left words.entry)) }
 {
     let mut codes = Vec::new(heap);
@@ -59,7 +59,7 @@ fn cut_typed(word: &[u8]) -> Option<u16>
 }
 
 /// What follows `cuts`. It fails only for want of memory.
-pub fn cuts_of<'a>(heap: Global, words: Words) -> Result<Option<Line<'a>>, AllocError>
+pub(crate) fn cuts_of<'a>(heap: Global, words: Words) -> Result<Option<Line<'a>>, AllocError>
     ensures value { IfOk result (λ l. option_map said_by l ≡ cuts_line (words_left words.entry)) }
 {
     let mut cuts = Vec::new(heap);
