@@ -34,4 +34,3 @@ fn records_in(heap: Global, looks: &[Answer]) -> Result<Vec<Record>, AllocError>
     };
     looks.iter().filter_map(record_in).collect(heap)
 }
-

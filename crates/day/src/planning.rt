@@ -43,7 +43,7 @@ fn plan_entering<'a>(
 }
 
 /// The call that a command comes to, or what is said in reply at once.
-pub fn plan_command<'a>(setup: &'a Setup, command: Command<'a>) -> Result<Call<'a>, Said> {
+pub fn plan_command<'a, 't: 'a>(setup: &'a Setup, command: Command<'t>) -> Result<Call<'a>, Said> {
     match command {
         Command::Note(typed) => Err(said_of_note(typed)),
         Command::Format { house } => Ok(Call::Format {
@@ -101,6 +101,16 @@ impl<'a> Plan<'a> {
         }
         Ok(())
     }
+}
+
+/// The first call on a new rig: it is formatted with what the script sets up.
+pub fn first_calls<'a>(heap: Global, setup: &'a Setup) -> Result<Vec<Call<'a>>, AllocError> {
+    let format = Call::Format {
+        house: setup.house,
+        roll: setup.roll.as_slice(),
+        opening: setup.opening.as_slice(),
+    };
+    Ok(vec![in heap; format]?)
 }
 
 /// A reply that is one of the desk's answers.

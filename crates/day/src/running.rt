@@ -1,8 +1,7 @@
 use crate::audit::Audit;
 use crate::instances::{keep_ledger_day, keep_stock_day};
-use crate::planning::{Plan, plan_day, replies_to};
+use crate::planning::{Plan, first_calls, plan_day, replies_to};
 use crate::reply::Reply;
-use desk::Call;
 use script::{BookName, Script, read_script};
 use std::alloc::{AllocError, Global};
 
@@ -21,11 +20,7 @@ fn run_rig(heap: Global, book: BookName, script: &Script) -> Result<Outcome, All
     let setup = &script.setup;
     let Plan { calls, expected } = plan_day(heap, setup, script.commands.as_slice())?;
     let mut bytes = vec![in heap; 0; DRIVE]?;
-    let first = vec![in heap; Call::Format {
-        house: setup.house,
-        roll: setup.roll.as_slice(),
-        opening: setup.opening.as_slice(),
-    }]?;
+    let first = first_calls(heap, setup)?;
     let cuts = setup.cuts.as_slice();
     let day = match book {
         BookName::Ledger => keep_ledger_day(heap, bytes.as_mut_slice(), cuts, first, calls)?,

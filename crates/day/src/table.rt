@@ -102,9 +102,16 @@ impl fmt::Display for Cells {
 /// The records in a table, a line for each.
 fn write_table<W: fmt::Write>(records: &[Record], f: &mut fmt::Formatter<W>) -> fmt::Result {
     f.write_str("audit\n")?;
-    f.write_str("  number  kind           row  first  second  procedure  role   a   b           n  mask")?;
+    f.write_str(
+        "  number  kind           row  first  second  procedure  role   a   b           n  mask",
+    )?;
     for (number, entry) in (1u64..).zip(records) {
-        write!(f, "\n  {number:>6}  {:<13}  {}", kind_of(entry), cells_of(entry))?;
+        write!(
+            f,
+            "\n  {number:>6}  {:<13}  {}",
+            kind_of(entry),
+            cells_of(entry)
+        )?;
     }
     Ok(())
 }

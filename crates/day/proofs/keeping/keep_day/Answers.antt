@@ -22,11 +22,13 @@ returns g c =
     let fresh = opened_as c.over-monitor.result.stage c.over-monitor.result.journal.drive c.over.result c.args.bytes.now c.over-monitor.ensures.shut c.over-monitor.ensures.holds (ap (λ (z : State). z.on) c.over.ensures.state) (ap (λ (z : State). z.bytes) c.over.ensures.state) in
     let again = opened_as c.over-monitor-2.result.stage c.over-monitor-2.result.journal.drive c.over-2.result left c.over-monitor-2.ensures.shut c.over-monitor-2.ensures.holds (ap (λ (z : State). z.on) c.over-2.ensures.state) (ap (λ (z : State). z.bytes) c.over-2.ensures.state) in
     record {
-      keeps =
-          (u, sym c.stage.ensures.value,
-           kept m c.args.bytes.now left _ _ _ _ _ s t u
-               (served_as m _ _ s _ _ _ fresh refl c.in_ok-firsts.ensures.served)
-               (taken d.on d.bytes.now left back)
-               (served_as m _ _ t _ _ _ again refl c.in_ok-answers.ensures.served)
-               (served_as m t t u _ _ _ refl (ap (map request_of) c.in_ok-look_at_every_record.ensures.asks) c.in_ok-audit.ensures.served));
+      keeps = (
+        u,
+        sym c.stage.ensures.value,
+        kept m c.args.bytes.now left _ _ _ _ _ s t u
+            (served_as m _ _ s _ _ _ fresh refl c.in_ok-firsts.ensures.served)
+            (taken d.on d.bytes.now left back)
+            (served_as m _ _ t _ _ _ again refl c.in_ok-answers.ensures.served)
+            (served_as m t t u _ _ _ refl (ap (map request_of) c.in_ok-look_at_every_record.ensures.asks) c.in_ok-audit.ensures.served),
+      );
     }
