@@ -7,7 +7,7 @@ use std::io::Read;
 use std::{env, fs, io};
 
 const HELP: &str = "usage: house [FILE...]
-Answers the script in each FILE, or the one on standard input, on a rig of its own.
+Answers the script in each FILE, each on a rig of its own. Without FILE, or for a FILE of '-', it reads standard input.
   book ledger | book stock      the book of the lines below; the first is the rig's
   house N                       the house number
   roll WORD...                  more bytes of the roll
@@ -32,9 +32,12 @@ fn read_input(rt: &HostRuntime) -> io::Result<Vec<u8>> {
     Ok(bytes)
 }
 
-/// The bytes of a file, or a line that says why they cannot be had.
+/// The bytes of a file, or a line that says why they cannot be had. A file named '-' is standard input.
 // `judge` has its own: a crate for these lines alone would be no plainer.
 fn read_file(rt: &HostRuntime, path: &str) -> anyhow::Result<Vec<u8>> {
+    if path == "-" {
+        return Ok(read_input(rt)?);
+    }
     fs::read(rt, path).or_else(|error| {
         eprintln!(rt; "house: cannot read {path}: {error}")?;
         Err(error.into())
