@@ -1,6 +1,17 @@
 // A day: a script that was read is run on a monitor over trial drives, and what was answered is printed.
 #![tactic(auto)]
 
+mod audit;
+mod instances;
 mod keeping;
+mod planning;
+mod reply;
+mod running;
+mod table;
 
+pub use audit::Audit;
+pub use instances::{keep_ledger_day, keep_stock_day};
 pub use keeping::{Day, keep_day};
+pub use planning::plan_command;
+pub use reply::{Reply, Said, Source};
+pub use running::{Outcome, run_script};

@@ -1,16 +1,28 @@
-// `house`: reads a script from the file that its argument names, or from standard input, and prints the reply to
-// each note, and last to the bad line that ended the run, if one did. What it answers is the library's; here is only
-// reading and printing.
+// `house`: reads scripts from the files that its arguments name, or one from standard input, and prints the replies to each,
+// and the audit at its end. What it answers is the library's; here is only reading and printing.
 #![tactic(auto)]
 
-use script::run_script;
+use day::run_script;
 use std::io::Read;
 use std::{env, fs, io};
 
-const HELP: &str = "usage: house [FILE]
-Reads a script from FILE, or from standard input, and answers each note that it types.
-  book ledger | book stock      chooses the book of the notes below
-  note PROCEDURE A B N          types a note: a word or number, two items, an amount
+const HELP: &str = "usage: house [FILE...]
+Answers the script in each FILE, each on a rig of its own. Without FILE, or for a FILE of '-', it reads standard input.
+  book ledger | book stock      the book of the lines below; the first is the rig's
+  house N                       the house number
+  roll WORD...                  more bytes of the roll
+  opening CODE...               more codes of the opening
+  cuts N...                     more cut numbers
+  note PROCEDURE A B N          makes a note, and no more
+  enter SLIP USER WORD PROCEDURE A B N
+  countersign SLIP USER WORD
+  withdraw SLIP
+  certify WORD ROW USER PROCEDURE ROLE MASK
+  strike WORD ROW
+  item I                        shows an item
+  record K                      shows a record of the audit
+  format N                      formats again, under house number N
+  attach                        attaches the drive as it stands
 A '#' begins a comment. docs/HOUSE.md has the forms in full.";
 
 /// All bytes of standard input.
@@ -20,27 +32,47 @@ fn read_input(rt: &HostRuntime) -> io::Result<Vec<u8>> {
     Ok(bytes)
 }
 
-/// The bytes of a file, or a line that says why they cannot be had.
+/// The bytes of a file, or a line that says why they cannot be had. A file named '-' is standard input.
 // `judge` has its own: a crate for these lines alone would be no plainer.
 fn read_file(rt: &HostRuntime, path: &str) -> anyhow::Result<Vec<u8>> {
+    if path == "-" {
+        return Ok(read_input(rt)?);
+    }
     fs::read(rt, path).or_else(|error| {
         eprintln!(rt; "house: cannot read {path}: {error}")?;
         Err(error.into())
     })
 }
 
-/// Answers a script, a line for each reply.
+/// Answers a script: a line for each reply, and the audit.
 fn answer(rt: &HostRuntime, text: &[u8]) -> anyhow::Result<()> {
-    for reply in run_script(rt.alloc(), text)? {
+    let outcome = run_script(rt.alloc(), text)?;
+    for reply in outcome.replies {
         rt.println(reply)?;
+    }
+    if let Some(audit) = outcome.audit {
+        rt.println(audit)?;
+    }
+    Ok(())
+}
+
+/// Answers the script of each file in turn, under its name if there are several.
+fn answer_files(rt: &HostRuntime, paths: &[String]) -> anyhow::Result<()> {
+    for path in paths {
+        let path = path.as_str();
+        if paths.len() > 1 {
+            println!(rt; "== {path}")?;
+        }
+        answer(rt, read_file(rt, path)?.as_slice())?;
     }
     Ok(())
 }
 
 fn main(rt: HostRuntime) -> anyhow::Result<()> {
-    match env::args(&rt)?.nth(1) {
+    let words = env::args(&rt)?.skip(1).collect::<Vec<String>>(rt.alloc())?;
+    match words.first() {
         None => answer(&rt, read_input(&rt)?.as_slice()),
         Some(word) if word.as_str() == "--help" => Ok(rt.println(HELP)?),
-        Some(path) => answer(&rt, read_file(&rt, path.as_str())?.as_slice()),
+        Some(_) => answer_files(&rt, words.as_slice()),
     }
 }

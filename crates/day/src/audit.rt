@@ -1,0 +1,36 @@
+use desk::Answer;
+use monitor::Stage;
+use records::Record;
+use std::alloc::{AllocError, Global};
+use std::fmt;
+
+/// The audit at the end of a day: what every record says, if the monitor is open then.
+#[derive(Drop)]
+pub enum Audit {
+    /// The monitor is shut.
+    Shut,
+    /// The monitor is dark: it lost power.
+    Dark,
+    /// The records, from number 1 on.
+    Records(Vec<Record>),
+}
+
+impl Audit {
+    /// The audit of a monitor that came to this stage, by its answers to a look at each record.
+    pub(crate) fn of(heap: Global, stage: Stage, looks: &[Answer]) -> Result<Audit, AllocError> {
+        match stage {
+            Stage::Shut => Ok(Audit::Shut),
+            Stage::Dark => Ok(Audit::Dark),
+            Stage::Open => Ok(Audit::Records(records_in(heap, looks)?)),
+        }
+    }
+}
+
+/// The records among some answers.
+fn records_in(heap: Global, looks: &[Answer]) -> Result<Vec<Record>, AllocError> {
+    let record_in = |look: &Answer| match *look {
+        Answer::Record(Ok(entry)) => Some(entry),
+        _ => None,
+    };
+    looks.iter().filter_map(record_in).collect(heap)
+}
