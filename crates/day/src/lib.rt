@@ -12,6 +12,6 @@ mod table;
 pub use audit::Audit;
 pub use instances::{keep_ledger_day, keep_stock_day};
 pub use keeping::{Day, keep_day};
-pub use planning::plan_command;
+pub use planning::{Expected, Plan, first_calls, plan_command, plan_day};
 pub use reply::{Reply, Said, Source};
 pub use running::{Outcome, run_script};

@@ -1,0 +1,130 @@
+// A day, kept with one cut number: what stood at its end, compared with the tally.
+use crate::tally::{Tally, Tray};
+use books::Book;
+use day::{Expected, Plan, Said, first_calls, keep_day, plan_day};
+use desk::{Answer, Call};
+use records::Record;
+use refusals::Reason;
+use script::Script;
+use std::alloc::{AllocError, Global};
+
+/// What stood at the end of a day.
+#[derive(Clone, Copy, PartialEq, Eq)]
+pub enum Stood {
+    /// What the tally holds.
+    AsTallied,
+    /// A format lost power, so that there is no tally.
+    NoTally,
+    /// Something else.
+    Otherwise,
+}
+
+/// What became of a day.
+#[derive(Clone, Copy, PartialEq, Eq)]
+pub struct End {
+    /// The place at which power was lost first, if it was lost.
+    pub lost: Option<u64>,
+    /// Whether it was lost in an attach or a format.
+    pub in_start: bool,
+    pub stood: Stood,
+}
+
+/// The place at which power was lost in a call, if it was; 0 is no loss, but a call of a dark monitor.
+fn place_lost(answer: &Answer) -> Option<u64> {
+    match answer {
+        Answer::Count(Err(refusal)) if refusal.reason == Reason::PowerLost && refusal.place != 0 =>
+            { Some(refusal.place) }
+        _ => None,
+    }
+}
+
+/// The calls of a day, then an attach, another if that one was cut, and a look at every item.
+fn and_looks(mut calls: Vec<Call<'_>>) -> Result<Vec<Call<'_>>, AllocError> {
+    calls.push(Call::Attach)?;
+    calls.push(Call::Attach)?;
+    for item in 0..64 {
+        calls.push(Call::Item { item })?;
+    }
+    Ok(calls)
+}
+
+/// Whether the items and records that were looked at are those of the tally.
+fn agrees(tally: &Tally, items: &[Answer], audit: &[Answer]) -> bool {
+    let items_agree = items.len() == 64
+        && items
+            .iter()
+            .zip(&tally.held.items)
+            .all(|(answer, code)| *answer == Answer::Code(Ok(*code)));
+    let records_agree = audit
+        .iter()
+        .zip(tally.records.as_slice())
+        .all(|(answer, entry)| *answer == Answer::Record(Ok(*entry)));
+    let standing = audit
+        .iter()
+        .filter(|answer| matches!(**answer, Answer::Record(Ok(_))))
+        .count();
+    items_agree && records_agree && standing == tally.records.len()
+}
+
+/// The tally of a day's commands and answers, and the answers after them.
+fn tally_of<'t, 'a, B: Book>(
+    heap: Global,
+    book: &B,
+    script: &Script<'t>,
+    expected: &[Expected],
+    answers: &'a [Answer],
+) -> Result<(Tally, &'a [Answer]), AllocError> {
+    let opening = script.setup.opening.as_slice();
+    let mut tally = Tally::opened(heap, opening);
+    let mut tray = Tray::new(heap);
+    let mut left = answers;
+    // The first answer is the attach's; the format's and its own are the first two that are expected.
+    if let Some((attached, later)) = left.split_first() {
+        tally.attach(book, *attached)?;
+        left = later;
+    }
+    for (numbered, expected) in script.commands.iter().zip(expected.iter().skip(2)) {
+        if expected.said.is_some() {
+            continue;
+        }
+        let Some((answer, later)) = left.split_first() else {
+            break;
+        };
+        tally.feed(heap, book, opening, &mut tray, numbered.command, *answer)?;
+        left = later;
+    }
+    for _ in 0..2 {
+        if let Some((attached, later)) = left.split_first() {
+            tally.attach(book, *attached)?;
+            left = later;
+        }
+    }
+    Ok((tally, left))
+}
+
+/// Keeps the day of a script on a fresh drive over some bytes, with some cut numbers.
+pub fn keep_cut<'a, B: Book + Drop + Copy>(
+    heap: Global,
+    book: B,
+    script: &'a Script<'a>,
+    bytes: &'a mut [u8],
+    cuts: &'a [u16],
+) -> Result<End, AllocError> {
+    let Plan { calls, expected } = plan_day(heap, &script.setup, script.commands.as_slice())?;
+    let first = first_calls(heap, &script.setup)?;
+    let day = keep_day(heap, book, bytes, cuts, first, and_looks(calls)?)?;
+    let answers = day.answers.as_slice();
+    let (tally, items) = tally_of(heap, &book, script, expected.as_slice(), answers)?;
+    let stood = if !tally.known {
+        Stood::NoTally
+    } else if agrees(&tally, items, day.audit.as_slice()) {
+        Stood::AsTallied
+    } else {
+        Stood::Otherwise
+    };
+    Ok(End {
+        lost: answers.iter().find_map(place_lost),
+        in_start: answers.iter().any(|answer| place_lost(answer) == Some(4)),
+        stood,
+    })
+}
