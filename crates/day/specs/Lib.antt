@@ -1,3 +1,4 @@
 pub mod Keeping
 pub mod Planning
 pub mod Replies
+pub mod Running

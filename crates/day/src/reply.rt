@@ -1,3 +1,5 @@
+ghost use Rattle.std.specs.Prelude.{◌≡◌};
+
 use desk::Answer;
 use monitor::Entered;
 use notes::Numbers;
@@ -34,8 +36,12 @@ pub struct Reply {
 }
 
 impl Reply {
+    ghost use Rattle.day.specs.Replies.{line_at_fault};
+
     /// The reply to the bad line that ended the reading.
-    pub fn to_bad_line(line: u64) -> Reply {
+    pub fn to_bad_line(line: u64) -> Reply
+        ensures value { result ≡ line_at_fault line }
+    {
         Reply {
             source: Source::Line(line),
             said: Said::Refused(Refusal::at(Reason::BadScript, line)),
