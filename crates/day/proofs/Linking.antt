@@ -1,5 +1,6 @@
 -- Sessions one after another, and the history of them all.
-use Rattle.std.proofs.Common.{◌≡◌, ℕ, Bool, false, List, [], ◌++◌, refl, sym, ap, subst, ◌∙◌}
+use Rattle.std.proofs.Common.{◌≡◌, ℕ, Bool, false, List, [], ◌++◌, Result, IfOk, refl, sym, ap, subst, ◌∙◌}
+use Rattle.std.specs.declared.alloc.AllocError.{AllocError}
 use Rattle.books.specs.Meaning.{Meaning}
 use Rattle.trial.specs.Bytes.{disk_of}
 use Rattle.trial.specs.declared.drive.TrialDrive.{TrialDrive}
@@ -9,7 +10,8 @@ use Rattle.monitor.specs.Machine.{Machine, machine}
 use Rattle.histories.specs.Events.{Event, History, TakenOver, begun, again}
 use Rattle.desk.specs.declared.answer.Answer.{Answer}
 use Rattle.desk.specs.Serving.{Request, Served}
-use Rattle.day.specs.Keeping.{shut_over, every_record, Kept}
+use Rattle.day.specs.declared.keeping.Day.{Day}
+use Rattle.day.specs.Keeping.{shut_over, every_record, Kept, KeptAs}
 
 -- a fresh trial drive on the bytes of another takes it over
 pub takes_over : (on : Bool) (bytes : List ℕ) → TakenOver (disk_of on bytes) (disk_of false bytes)
@@ -54,3 +56,10 @@ served_as m s t u calls asked answers e f h = subst (λ z. Served m t z answers 
 -- the bytes that were taken back
 pub taken : (on : Bool) (bytes left : List ℕ) → left ≡ bytes → TakenOver (disk_of on bytes) (disk_of false left)
 taken on bytes left e = subst (λ z. TakenOver (disk_of on bytes) (disk_of false z)) (sym e) (takes_over on bytes)
+
+-- a kept day by other names of its bytes and first requests
+pub kept_as :
+    (m : Meaning) (b c : List ℕ) (f g q : List Request) (r : Result Day AllocError)
+    → b ≡ c → f ≡ g → IfOk r (KeptAs m b f q) → IfOk r (KeptAs m c g q)
+kept_as m b c f g q r x y k =
+    subst (λ z. IfOk r (KeptAs m c z q)) y (subst (λ z. IfOk r (KeptAs m z f q)) x k)

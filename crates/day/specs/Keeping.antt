@@ -1,6 +1,6 @@
 -- A day kept on trial drives: first calls on a drive that never loses power, then the day's calls on a fresh drive on the same
 -- bytes that loses power by its cut numbers, and last a look at every record.
-use Rattle.std.specs.Prelude.{ℕ, false, List, map}
+use Rattle.std.specs.Prelude.{◌≡◌, ℕ, false, List, map, vec_items}
 use Rattle.std.specs.List.{range_with_len}
 use Rattle.books.specs.Meaning.{Meaning}
 use Rattle.trial.specs.Bytes.{disk_of}
@@ -10,6 +10,7 @@ use Rattle.histories.specs.Events.{Event, History, TakenOver}
 use Rattle.histories.specs.Law.{Law}
 use Rattle.desk.specs.declared.answer.Answer.{Answer}
 use Rattle.desk.specs.Serving.{Request, LooksAtRecord, Served}
+use Rattle.day.specs.declared.keeping.Day.{Day}
 
 -- a shut monitor over a trial drive on some bytes
 abbrev pub shut_over : List ℕ → Machine
@@ -31,3 +32,9 @@ pub record Kept (m : Meaning) (bytes : List ℕ) (first calls : List Request) (f
   pub happened : List Event
   pub history : History m happened end
   pub law : Law m happened end
+
+-- a day was kept with these answers, and the monitor came to this stage
+abbrev pub KeptAs : Meaning → List ℕ → List Request → List Request → Day → Type 0
+KeptAs m bytes first calls day =
+    (end : Machine) × (end.stage ≡ day.stage)
+    × Kept m bytes first calls (vec_items day.firsts) (vec_items day.answers) (vec_items day.audit) end

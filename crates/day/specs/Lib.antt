@@ -1,1 +1,5 @@
 pub mod Keeping
+pub mod Planning
+pub mod Replies
+pub mod Running
+pub mod Texts

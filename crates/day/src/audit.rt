@@ -1,3 +1,6 @@
+ghost use Rattle.std.specs.Prelude.{◌≡◌, IfOk};
+ghost use Rattle.day.specs.Running.{Shows, record_seen, records_seen};
+
 use desk::Answer;
 use monitor::Stage;
 use records::Record;
@@ -17,7 +20,9 @@ pub enum Audit {
 
 impl Audit {
     /// The audit of a monitor that came to this stage, by its answers to a look at each record.
-    pub(crate) fn of(heap: Global, stage: Stage, looks: &[Answer]) -> Result<Audit, AllocError> {
+    pub(crate) fn of(heap: Global, stage: Stage, looks: &[Answer]) -> Result<Audit, AllocError>
+        ensures shows { IfOk result (Shows stage looks.now) }
+    {
         match stage {
             Stage::Shut => Ok(Audit::Shut),
             Stage::Dark => Ok(Audit::Dark),
@@ -26,11 +31,25 @@ impl Audit {
     }
 }
 
-/// The records among some answers.
-fn records_in(heap: Global, looks: &[Answer]) -> Result<Vec<Record>, AllocError> {
-    let record_in = |look: &Answer| match *look {
+/// The record of an answer, if one was seen.
+fn record_in(look: &Answer) -> Option<Record>
+    ensures value { result ≡ record_seen look.now }
+{
+    match *look {
         Answer::Record(Ok(entry)) => Some(entry),
         _ => None,
-    };
-    looks.iter().filter_map(record_in).collect(heap)
+    }
+}
+
+/// The records among some answers.
+fn records_in(heap: Global, looks: &[Answer]) -> Result<Vec<Record>, AllocError>
+    ensures value { IfOk result (λ v. v.items ≡ records_seen looks.now) }
+{
+    let mut records = Vec::new(heap);
+    for look in looks {
+        if let Some(entry) = record_in(look) {
+            records.push(entry)?;
+        }
+    }
+    Ok(records)
 }

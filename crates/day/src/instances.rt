@@ -1,6 +1,14 @@
+ghost use Rattle.std.specs.Prelude.{◌≡◌, map, IfOk};
+ghost use Rattle.script.specs.Grammar.{meaning_of};
+ghost use Rattle.ledger.specs.Ledger.{ledger};
+ghost use Rattle.stock.specs.Stock.{stock};
+ghost use Rattle.desk.specs.Serving.{request_of};
+ghost use Rattle.day.specs.Keeping.{KeptAs};
+
 use crate::keeping::{Day, keep_day};
 use desk::Call;
 use ledger::Ledger;
+use script::BookName;
 use std::alloc::{AllocError, Global};
 use stock::Stock;
 
@@ -11,7 +19,9 @@ pub fn keep_ledger_day<'a>(
     cuts: &'a [u16],
     first: Vec<Call<'a>>,
     calls: Vec<Call<'a>>,
-) -> Result<Day, AllocError> {
+) -> Result<Day, AllocError>
+    ensures keeps { IfOk result (KeptAs ledger bytes.old (map request_of first.entry.items) (map request_of calls.entry.items)) }
+{
     keep_day(heap, Ledger, bytes, cuts, first, calls)
 }
 
@@ -22,6 +32,25 @@ pub fn keep_stock_day<'a>(
     cuts: &'a [u16],
     first: Vec<Call<'a>>,
     calls: Vec<Call<'a>>,
-) -> Result<Day, AllocError> {
+) -> Result<Day, AllocError>
+    ensures keeps { IfOk result (KeptAs stock bytes.old (map request_of first.entry.items) (map request_of calls.entry.items)) }
+{
     keep_day(heap, Stock, bytes, cuts, first, calls)
+}
+
+/// A day of the book of this name.
+pub(crate) fn keep_day_of<'a>(
+    heap: Global,
+    book: BookName,
+    bytes: &'a mut [u8],
+    cuts: &'a [u16],
+    first: Vec<Call<'a>>,
+    calls: Vec<Call<'a>>,
+) -> Result<Day, AllocError>
+    ensures keeps { IfOk result (KeptAs (meaning_of book) bytes.old (map request_of first.entry.items) (map request_of calls.entry.items)) }
+{
+    match book {
+        BookName::Ledger => keep_ledger_day(heap, bytes, cuts, first, calls),
+        BookName::Stock => keep_stock_day(heap, bytes, cuts, first, calls),
+    }
 }

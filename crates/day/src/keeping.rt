@@ -2,8 +2,7 @@ ghost use Rattle.std.specs.Prelude.{◌≡◌, map, IfOk};
 ghost use Rattle.std.specs.List.{range_with_len};
 ghost use Rattle.desk.specs.declared.call.Call.TheVariants.{Record as CallRecord};
 ghost use Rattle.desk.specs.Serving.{request_of};
-ghost use Rattle.monitor.specs.Machine.{Machine, machine};
-ghost use Rattle.day.specs.Keeping.{every_record, Kept};
+ghost use Rattle.day.specs.Keeping.{KeptAs};
 
 use books::Book;
 use desk::{Answer, Call, serve};
@@ -37,7 +36,7 @@ pub fn keep_day<'a, B: Book + Drop>(
     first: Vec<Call<'a>>,
     calls: Vec<Call<'a>>,
 ) -> Result<Day, AllocError>
-    ensures keeps { IfOk result (λ day. (end : Machine) × (end.stage ≡ day.stage) × Kept B.meaning bytes.old (map request_of first.entry.items) (map request_of calls.entry.items) day.firsts.items day.answers.items day.audit.items end) }
+    ensures keeps { IfOk result (KeptAs B.meaning bytes.old (map request_of first.entry.items) (map request_of calls.entry.items)) }
 {
     let mut monitor = Monitor::over(TrialDrive::over(bytes, &[]), book);
     let firsts = serve(&mut monitor, heap, first)?;

@@ -1,3 +1,12 @@
+ghost use Rattle.std.specs.Prelude.{◌≡◌, ◌∷◌, ◌++◌, [], None, map, IfOk, OnOk};
+ghost use Rattle.notes.specs.Held.{made_of};
+ghost use Rattle.script.specs.Said.{asked_by};
+ghost use Rattle.script.specs.Reading.{gathered_by, asked_at};
+ghost use Rattle.desk.specs.Serving.{request_of};
+ghost use Rattle.day.specs.declared.reply.Source.TheVariants.{Line};
+ghost use Rattle.day.specs.Planning.{made, note_said, entering_of, planned as plan_by, plan_of, asks, said_at_once, first_requests, requests_of, all_expected};
+ghost use Rattle.day.specs.Replies.{replies_of};
+
 use crate::reply::{Reply, Said, Source};
 use desk::{Answer, Call};
 use ledger::Ledger;
@@ -8,7 +17,9 @@ use std::alloc::{AllocError, Global};
 use stock::Stock;
 
 /// A note that was typed, made in the book that was chosen above it.
-fn make_typed(typed: TypedNote) -> Result<Note, Refusal> {
+fn make_typed(typed: TypedNote) -> Result<Note, Refusal>
+    ensures value { made_of result ≡ made typed }
+{
     // Each book is a type of its own, with constants and an item type, so no enum and no `dyn` stands for both: each arm names one.
     match typed.book {
         BookName::Ledger => make_note(&Ledger, typed.draft),
@@ -17,7 +28,9 @@ fn make_typed(typed: TypedNote) -> Result<Note, Refusal> {
 }
 
 /// What is said of a note that is only to be made.
-fn said_of_note(typed: TypedNote) -> Said {
+fn said_of_note(typed: TypedNote) -> Said
+    ensures value { result ≡ note_said (made typed) }
+{
     match make_typed(typed) {
         Ok(note) => Said::Note(note.numbers()),
         Err(refusal) => Said::Refused(refusal),
@@ -30,7 +43,9 @@ fn plan_entering<'a>(
     user: u64,
     word: &'a [u8],
     typed: TypedNote,
-) -> Result<Call<'a>, Said> {
+) -> Result<Call<'a>, Said>
+    ensures value { plan_of result ≡ entering_of name.now user word.now (made typed) }
+{
     match make_typed(typed) {
         Ok(note) => Ok(Call::Enter {
             name,
@@ -43,7 +58,9 @@ fn plan_entering<'a>(
 }
 
 /// The call that a command comes to, or what is said in reply at once.
-pub fn plan_command<'a, 't: 'a>(setup: &'a Setup, command: Command<'t>) -> Result<Call<'a>, Said> {
+pub fn plan_command<'a>(setup: &'a Setup, command: Command<'a>) -> Result<Call<'a>, Said>
+    ensures value { plan_of result ≡ plan_by (gathered_by setup.now) (asked_by command.entry) }
+{
     match command {
         Command::Note(typed) => Err(said_of_note(typed)),
         Command::Format { house } => Ok(Call::Format {
@@ -87,7 +104,10 @@ pub struct Plan<'a> {
 
 impl<'a> Plan<'a> {
     /// Adds what a command comes to.
-    fn add(&mut self, line: u64, planned: Result<Call<'a>, Said>) -> Result<(), AllocError> {
+    fn add(&mut self, line: u64, planned: Result<Call<'a>, Said>) -> Result<(), AllocError>
+        ensures calls { OnOk result (map request_of self.new.calls.items ≡ map request_of self.old.calls.items ++ asks (plan_of planned.entry)) }
+        ensures expected { OnOk result (self.new.expected.items ≡ self.old.expected.items ++ record { source = Line line; said = said_at_once (plan_of planned.entry) } ∷ []) }
+    {
         let source = Source::Line(line);
         match planned {
             Ok(call) => {
@@ -104,7 +124,9 @@ impl<'a> Plan<'a> {
 }
 
 /// The first call on a new rig: it is formatted with what the script sets up.
-pub fn first_calls<'a>(heap: Global, setup: &'a Setup) -> Result<Vec<Call<'a>>, AllocError> {
+pub fn first_calls<'a>(heap: Global, setup: &'a Setup) -> Result<Vec<Call<'a>>, AllocError>
+    ensures asks { IfOk result (λ v. map request_of v.items ≡ first_requests (gathered_by setup.now)) }
+{
     let format = Call::Format {
         house: setup.house,
         roll: setup.roll.as_slice(),
@@ -114,7 +136,9 @@ pub fn first_calls<'a>(heap: Global, setup: &'a Setup) -> Result<Vec<Call<'a>>, 
 }
 
 /// A reply that is one of the desk's answers.
-fn awaited(source: Source) -> Expected {
+fn awaited(source: Source) -> Expected
+    ensures value { result ≡ record { source = source; said = None } }
+{
     Expected { source, said: None }
 }
 
@@ -123,7 +147,10 @@ pub fn plan_day<'a>(
     heap: Global,
     setup: &'a Setup,
     commands: &[Numbered<'a>],
-) -> Result<Plan<'a>, AllocError> {
+) -> Result<Plan<'a>, AllocError>
+    ensures calls { IfOk result (λ p. map request_of p.calls.items ≡ requests_of (gathered_by setup.now) (map asked_at commands.now)) }
+    ensures expected { IfOk result (λ p. p.expected.items ≡ all_expected (gathered_by setup.now) (map asked_at commands.now)) }
+{
     let mut plan = Plan {
         calls: vec![in heap; Call::Attach]?,
         expected: vec![in heap; awaited(Source::Format), awaited(Source::Attach)]?,
@@ -139,22 +166,24 @@ pub fn replies_to(
     heap: Global,
     expected: &[Expected],
     answers: &[Answer],
-) -> Result<Vec<Reply>, AllocError> {
+) -> Result<Vec<Reply>, AllocError>
+    ensures replies { IfOk result (λ v. v.items ≡ replies_of expected.now answers.now) }
+{
     let mut replies = Vec::new(heap);
     let mut left = answers;
-    for expected in expected {
-        let said = match expected.said {
+    for next in expected {
+        let said = match next.said {
             Some(said) => said,
             None => {
                 let Some((answer, later)) = left.split_first() else {
-                    break;
+                    return Ok(replies);
                 };
                 left = later;
                 Said::Answered(*answer)
             }
         };
         replies.push(Reply {
-            source: expected.source,
+            source: next.source,
             said,
         })?;
     }

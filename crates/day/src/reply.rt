@@ -1,3 +1,6 @@
+ghost use Rattle.std.specs.Prelude.{◌≡◌, Some};
+ghost use Rattle.day.specs.Texts.{note_text, slip_text, answer_text, source_text, said_text, reply_text};
+
 use desk::Answer;
 use monitor::Entered;
 use notes::Numbers;
@@ -34,8 +37,12 @@ pub struct Reply {
 }
 
 impl Reply {
+    ghost use Rattle.day.specs.Replies.{line_at_fault};
+
     /// The reply to the bad line that ended the reading.
-    pub fn to_bad_line(line: u64) -> Reply {
+    pub(crate) fn to_bad_line(line: u64) -> Reply
+        ensures value { result ≡ line_at_fault line }
+    {
         Reply {
             source: Source::Line(line),
             said: Said::Refused(Refusal::at(Reason::BadScript, line)),
@@ -48,6 +55,8 @@ impl Reply {
 struct NoteText(Numbers);
 
 impl fmt::Display for NoteText {
+    ghost output = { λ x. Some (note_text x.0) };
+
     fn fmt<W: fmt::Write>(&self, f: &mut fmt::Formatter<W>) -> fmt::Result {
         let note = self.0;
         write!(
@@ -63,6 +72,8 @@ impl fmt::Display for NoteText {
 struct SlipText(Entered);
 
 impl fmt::Display for SlipText {
+    ghost output = { λ x. Some (slip_text x.0) };
+
     fn fmt<W: fmt::Write>(&self, f: &mut fmt::Formatter<W>) -> fmt::Result {
         let note = NoteText(self.0.numbers);
         let enterer = self.0.enterer;
@@ -76,6 +87,8 @@ impl fmt::Display for SlipText {
 struct AnswerText(Answer);
 
 impl fmt::Display for AnswerText {
+    ghost output = { λ x. answer_text x.0 };
+
     fn fmt<W: fmt::Write>(&self, f: &mut fmt::Formatter<W>) -> fmt::Result {
         match self.0 {
             Answer::Count(Ok(count)) => write!(f, "records: {count}"),
@@ -93,6 +106,8 @@ impl fmt::Display for AnswerText {
 }
 
 impl fmt::Display for Source {
+    ghost output = { λ x. Some (source_text x) };
+
     fn fmt<W: fmt::Write>(&self, f: &mut fmt::Formatter<W>) -> fmt::Result {
         match *self {
             Source::Format => f.write_str("format"),
@@ -103,6 +118,8 @@ impl fmt::Display for Source {
 }
 
 impl fmt::Display for Said {
+    ghost output = { λ x. said_text x };
+
     fn fmt<W: fmt::Write>(&self, f: &mut fmt::Formatter<W>) -> fmt::Result {
         match *self {
             Said::Note(numbers) => write!(f, "note made: {}", NoteText(numbers)),
@@ -114,6 +131,8 @@ impl fmt::Display for Said {
 
 /// One line that says what became of a line of the script.
 impl fmt::Display for Reply {
+    ghost output = { λ x. reply_text x };
+
     fn fmt<W: fmt::Write>(&self, f: &mut fmt::Formatter<W>) -> fmt::Result {
         let source = self.source;
         let said = self.said;

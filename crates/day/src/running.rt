@@ -1,8 +1,19 @@
+ghost use Rattle.std.specs.Prelude.{◌≡◌, ◌++◌, map, IfOk, IsSomeAnd};
+ghost use Rattle.script.specs.Grammar.{meaning_of};
+ghost use Rattle.script.specs.Reading.{gathered_by, asked_at, script_reading};
+ghost use Rattle.desk.specs.Serving.{request_of};
+ghost use Rattle.day.specs.Keeping.{KeptAs};
+ghost use Rattle.day.specs.Planning.{first_requests};
+ghost use Rattle.day.specs.Replies.{replies_of};
+ghost use Rattle.day.specs.Running.{new_drive, Shows, RunsOn, Runs};
+
 use crate::audit::Audit;
-use crate::instances::{keep_ledger_day, keep_stock_day};
-use crate::planning::{Plan, first_calls, plan_day, replies_to};
+use crate::instances::keep_day_of;
+use crate::keeping::Day;
+use crate::planning::{Expected, first_calls, plan_day, replies_to};
 use crate::reply::Reply;
-use script::{BookName, Script, read_script};
+use desk::Call;
+use script::{BookName, Script, Setup, read_script};
 use std::alloc::{AllocError, Global};
 
 /// The bytes of a rig's drive: 64 blocks.
@@ -15,28 +26,48 @@ pub struct Outcome {
     pub audit: Option<Audit>,
 }
 
-/// Keeps the day of a script on a new drive of the book. It fails only for want of memory.
-fn run_rig(heap: Global, book: BookName, script: &Script) -> Result<Outcome, AllocError> {
-    let setup = &script.setup;
-    let Plan { calls, expected } = plan_day(heap, setup, script.commands.as_slice())?;
+/// Keeps a day on a new drive of a book, which is first formatted with what the script sets up.
+fn keep_on_new_drive<'a>(
+    heap: Global,
+    book: BookName,
+    setup: &'a Setup,
+    calls: Vec<Call<'a>>,
+) -> Result<Day, AllocError>
+    ensures keeps { IfOk result (KeptAs (meaning_of book) new_drive (first_requests (gathered_by setup.now)) (map request_of calls.entry.items)) }
+{
     let mut bytes = vec![in heap; 0; DRIVE]?;
     let first = first_calls(heap, setup)?;
     let cuts = setup.cuts.as_slice();
-    let day = match book {
-        BookName::Ledger => keep_ledger_day(heap, bytes.as_mut_slice(), cuts, first, calls)?,
-        BookName::Stock => keep_stock_day(heap, bytes.as_mut_slice(), cuts, first, calls)?,
-    };
+    keep_day_of(heap, book, bytes.as_mut_slice(), cuts, first, calls)
+}
+
+/// What a day came to, by its answers.
+fn outcome_of(heap: Global, expected: &[Expected], day: Day) -> Result<Outcome, AllocError>
+    ensures replies { IfOk result (λ o. o.replies.items ≡ replies_of expected.now (day.firsts.items ++ day.answers.items)) }
+    ensures audit { IfOk result (λ o. IsSomeAnd o.audit (Shows day.stage day.audit.items)) }
+{
     let mut answers = day.firsts;
     answers.extend_from_slice(day.answers.as_slice())?;
     Ok(Outcome {
-        replies: replies_to(heap, expected.as_slice(), answers.as_slice())?,
+        replies: replies_to(heap, expected, answers.as_slice())?,
         audit: Some(Audit::of(heap, day.stage, day.audit.as_slice())?),
     })
 }
 
+/// Runs a script that chose a book, on a new drive of that book. It fails only for want of memory.
+fn run_rig(heap: Global, book: BookName, script: &Script) -> Result<Outcome, AllocError>
+    ensures runs { IfOk result (λ o. RunsOn book (gathered_by script.now.setup) (map asked_at script.now.commands.items) o.replies.items o.audit) }
+{
+    let plan = plan_day(heap, &script.setup, script.commands.as_slice())?;
+    let day = keep_on_new_drive(heap, book, &script.setup, plan.calls)?;
+    outcome_of(heap, plan.expected.as_slice(), day)
+}
+
 /// Runs a script: answers each of its commands, and last the bad line that ended the reading, if one did. A script that
 /// chooses no book asks for nothing. It fails only for want of memory.
-pub fn run_script(heap: Global, text: &[u8]) -> Result<Outcome, AllocError> {
+pub fn run_script(heap: Global, text: &[u8]) -> Result<Outcome, AllocError>
+    ensures runs { IfOk result (λ o. Runs (script_reading text.now).setup.book (script_reading text.now) o) }
+{
     let script = read_script(heap, text)?;
     let mut outcome = match script.setup.book {
         Some(book) => run_rig(heap, book, &script)?,

@@ -1,0 +1,75 @@
+-- What each command of a script comes to: something that is said at once, or a request to the desk, whose answer is the reply.
+use Rattle.std.specs.Prelude.{ℕ, List, [], ◌∷◌, map, Some, None, Ok, Err, Option, Result}
+use Rattle.std.specs.List.{flat_map}
+use Rattle.refusals.specs.declared.refusal.Refusal.{Refusal}
+use Rattle.notes.specs.declared.numbers.Numbers.{Numbers}
+use Rattle.notes.specs.Notes.{noted}
+use Rattle.script.specs.declared.line.TypedNote.{TypedNote}
+use Rattle.script.specs.Said.{Asked, noting, formatting, attaching, entering, countersigning, withdrawing, certifying, striking, item_shown, record_shown}
+use Rattle.script.specs.Grammar.{meaning_of}
+use Rattle.script.specs.Reading.{Gathered, AskedAt}
+use Rattle.desk.specs.declared.call.Call.{Call}
+use Rattle.desk.specs.Serving.{Request, Formats, Attaches, Enters, Countersigns, Withdraws, Certifies, Strikes, LooksAtItem, LooksAtRecord, request_of}
+use Rattle.day.specs.declared.reply.Source.TheVariants.{Format, Attach, Line}
+use Rattle.day.specs.declared.reply.Said.{Said}
+use Rattle.day.specs.declared.reply.Said.TheVariants.{Note, Refused}
+use Rattle.day.specs.declared.planning.Expected.{Expected}
+
+-- a note that was typed, made in the book that was chosen above it
+abbrev pub made : TypedNote → Result Numbers Refusal
+made t = noted (meaning_of t.book) t.draft.procedure t.draft.a t.draft.b t.draft.amount
+
+-- what is said of a note that is made, and no more
+abbrev pub note_said : Result Numbers Refusal → Said
+note_said (Ok n) = Note n
+note_said (Err e) = Refused e
+
+-- a note that was made is entered; where it was refused, that is said, and nothing is asked
+abbrev pub entering_of : List ℕ → ℕ → List ℕ → Result Numbers Refusal → Result Request Said
+entering_of name user word (Ok n) = Ok (Enters name user word n)
+entering_of name user word (Err e) = Err (Refused e)
+
+-- what a command comes to: what is asked of the desk, or else what is said at once
+abbrev pub planned : Gathered → Asked → Result Request Said
+planned g (noting t) = Err (note_said (made t))
+planned g (formatting house) = Ok (Formats house g.roll g.opening)
+planned g attaching = Ok Attaches
+planned g (entering name user word t) = entering_of name user word (made t)
+planned g (countersigning name user word) = Ok (Countersigns name user word)
+planned g (withdrawing name) = Ok (Withdraws name)
+planned g (certifying word row) = Ok (Certifies word row)
+planned g (striking word row) = Ok (Strikes word row)
+planned g (item_shown i) = Ok (LooksAtItem i)
+planned g (record_shown k) = Ok (LooksAtRecord k)
+
+-- a plan by what its call asks for
+abbrev pub plan_of : Result Call Said → Result Request Said
+plan_of (Ok call) = Ok (request_of call)
+plan_of (Err said) = Err said
+
+-- what a plan asks of the desk: one thing or nothing
+abbrev pub asks : Result Request Said → List Request
+asks (Ok q) = q ∷ []
+asks (Err said) = []
+
+-- what it says at once
+abbrev pub said_at_once : Result Request Said → Option Said
+said_at_once (Ok q) = None
+said_at_once (Err said) = Some said
+
+-- the first session, on a new drive: it is formatted with what the script sets up
+abbrev pub first_requests : Gathered → List Request
+first_requests g = Formats g.house g.roll g.opening ∷ []
+
+-- the day's session: the drive is attached, and then the commands ask in their order
+abbrev pub requests_of : Gathered → List AskedAt → List Request
+requests_of g cs = Attaches ∷ flat_map (λ c. asks (planned g c.asked)) cs
+
+-- the reply that a command's line is to have
+abbrev pub expected_of : Gathered → AskedAt → Expected
+expected_of g c = record { source = Line c.line; said = said_at_once (planned g c.asked) }
+
+-- the replies that a script is to have: to the format, to the attach, and to each command
+abbrev pub all_expected : Gathered → List AskedAt → List Expected
+all_expected g cs =
+    record { source = Format; said = None } ∷ (record { source = Attach; said = None } ∷ map (expected_of g) cs)

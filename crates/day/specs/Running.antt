@@ -1,0 +1,55 @@
+-- What running a script comes to: a day that was kept on a new drive, the replies by its answers, and its audit.
+use Rattle.std.specs.Prelude.{◌≡◌, ℕ, List, ◌++◌, replicate, Some, None, Ok, Option, vec_items, IsSomeAnd}
+use Rattle.std.specs.List.{filter_map}
+use Rattle.records.specs.declared.record.Record.{Record}
+use Rattle.script.specs.declared.line.BookName.{BookName}
+use Rattle.script.specs.Grammar.{meaning_of}
+use Rattle.script.specs.Reading.{Gathered, AskedAt, Reading}
+use Rattle.monitor.specs.declared.stage.Stage.{Stage}
+use Rattle.monitor.specs.declared.stage.Stage.TheVariants as stage
+use Rattle.monitor.specs.Machine.{Machine}
+use Rattle.desk.specs.declared.answer.Answer.{Answer}
+use Rattle.desk.specs.declared.answer.Answer.TheVariants as answer
+use Rattle.day.specs.declared.audit.Audit.{Audit}
+use Rattle.day.specs.declared.audit.Audit.TheVariants as audit
+use Rattle.day.specs.declared.reply.Reply.{Reply}
+use Rattle.day.specs.declared.running.Outcome.{Outcome}
+use Rattle.day.specs.Keeping.{Kept}
+use Rattle.day.specs.Planning.{first_requests, requests_of, all_expected}
+use Rattle.day.specs.Replies.{replies_of, last_reply}
+
+-- a new drive: 64 blocks of zeros
+abbrev pub new_drive : List ℕ
+new_drive = replicate 4096 0
+
+-- the records that were seen by looking at each number
+abbrev pub record_seen : Answer → Option Record
+record_seen (answer.Record (Ok x)) = Some x
+record_seen _ = None
+
+abbrev pub records_seen : List Answer → List Record
+records_seen looks = filter_map record_seen looks
+
+-- what is shown of the audit at a stage: its records exactly if the monitor is open
+abbrev pub Shows : Stage → List Answer → Audit → Type 0
+Shows stage.Shut looks a = a ≡ audit.Shut
+Shows stage.Dark looks a = a ≡ audit.Dark
+Shows stage.Open looks (audit.Records v) = vec_items v ≡ records_seen looks
+Shows stage.Open looks audit.Shut = ⊥
+Shows stage.Open looks audit.Dark = ⊥
+
+-- a script that chose a book, run on a new drive of that book
+pub record RunsOn (b : BookName) (g : Gathered) (commands : List AskedAt) (replies : List Reply) (shown : Option Audit) : Type 0 where
+  pub firsts : List Answer
+  pub answers : List Answer
+  pub looks : List Answer
+  pub end : Machine
+  pub day : Kept (meaning_of b) new_drive (first_requests g) (requests_of g commands) firsts answers looks end
+  pub replied : replies ≡ replies_of (all_expected g commands) (firsts ++ answers)
+  pub audited : IsSomeAnd shown (Shows end.stage looks)
+
+-- what a script comes to, and last its bad line is refused; where it chose no book, there is no day
+abbrev pub Runs : Option BookName → Reading → Outcome → Type 0
+Runs (Some b) r o =
+    (replies : List Reply) × (vec_items o.replies ≡ replies ++ last_reply r.bad) × RunsOn b r.setup r.commands replies o.audit
+Runs None r o = (vec_items o.replies ≡ last_reply r.bad) × (o.audit ≡ None)
