@@ -1,4 +1,4 @@
-ghost use Rattle.std.specs.Prelude.{◌≡◌};
+ghost use Rattle.std.specs.Prelude.{◌≡◌, true, IsOk};
 ghost use Rattle.drives.specs.Calls.{Writes, Flushes, Powers};
 ghost use Rattle.counting.specs.Counted.{one_more};
 
@@ -72,6 +72,8 @@ impl<D> Counting<D> {
 impl<D: Drive> Drive for Counting<D> {
     ghost disk = { λ c. D.disk c.drive };
 
+    ghost powers_up = { λ c. D.powers_up c.drive };
+
     fn size(&self) -> u64 {
         self.drive.size()
     }
@@ -109,6 +111,7 @@ impl<D: Drive> Drive for Counting<D> {
 
     fn power(&mut self) -> Result<(), DriveFault>
         ensures powers { Powers (D.disk self.old.drive) result (D.disk self.new.drive) }
+        ensures done { D.powers_up self.old.drive ≡ true → IsOk result }
         ensures counted { self.new.powers ≡ one_more self.old.powers }
         ensures no_write { self.new.writes ≡ self.old.writes }
         ensures no_flush { self.new.flushes ≡ self.old.flushes }

@@ -112,6 +112,7 @@ impl<D: Drive> Journal<D> {
     /// Turns power off and on again.
     pub fn power(&mut self) -> Result<(), DriveFault>
         ensures powers { PowersOn (D.disk self.old.drive) result (D.disk self.new.drive) }
+        ensures done { D.powers_up self.old.drive ≡ true → IsOk result }
     {
         self.drive.power()
     }

@@ -18,7 +18,7 @@ use Rattle.journals.specs.Redo.{finished, home}
 use Rattle.journals.proofs.Reading.{not_ok}
 use Rattle.image.specs.Lawful.{lawful_size, room}
 use Rattle.image.specs.Verdict.{judged, verdict}
-use Rattle.judging.specs.Inspects.{Inspects, LostFinishing, UnlawfulCommit, Judged, unfinished_for}
+use Rattle.judging.specs.Inspects.{Inspects, PoweredOn, LostFinishing, UnlawfulCommit, Judged, unfinished_for}
 
 -- a lawful size has more than 34 blocks
 pub lawful_wide : (n : ℕ) → lawful_size n ≡ true → 34 < n
@@ -42,12 +42,11 @@ module _ (m : Meaning) (d p e : Disk) (fits : lawful_size (size d) ≡ true) (po
   left_lawful = ap lawful_size same_size ∙ fits
 
   -- an inspection that came so far
-  inspected : (r : Result ℕ Refusal) → LostFinishing p r e ⊎ (UnlawfulCommit m p r e ⊎ Judged m p r e) → Inspects m d r e
-  inspected r o =
-      record {
-        refused_size = λ f. absurd (both_ways _ f fits);
-        met = λ _. inr (record { left = p; powered = powers.met; stood = powers.stands; outcome = o });
-      }
+  inspected : (r : Result ℕ Refusal) → LostFinishing p r e ⊎ (UnlawfulCommit m p r e ⊎ Judged m p r e) → PoweredOn m d r e
+  inspected r o = record { left = p; powered = powers.met; stood = powers.stands; outcome = o }
+
+  pub inspects_on : (r : Result ℕ Refusal) → PoweredOn m d r e → Inspects m d r e
+  inspects_on r o = record { refused_size = λ f. absurd (both_ways _ f fits); met = λ _. inr o }
 
   -- the verdict, once the commit block is tested
   verdict_by : (t : Bool) → lawful_commit (size p) (present p 0) ≡ t → verdict m p.blocks ≡ cond t (judged m (room (size p)) (home (finished p.blocks))) (refused BadCommitBlock 0)
@@ -63,7 +62,7 @@ module _ (m : Meaning) (d p e : Disk) (fits : lawful_size (size d) ≡ true) (po
   different : (x : FinishFault) → (◌≡◌ {A = Result (Unit {0}) FinishFault} (Ok tt) (Err x)) → ⊥
   different x q = not_ok tt x q
 
-  pub inspect_judged : (r : Result ℕ Refusal) → Finishes p (Ok tt) e → r ≡ judged m (room (size e)) (home e.blocks) → Inspects m d r e
+  pub inspect_judged : (r : Result ℕ Refusal) → Finishes p (Ok tt) e → r ≡ judged m (room (size e)) (home e.blocks) → PoweredOn m d r e
   inspect_judged r f a =
       elim (cases_Bool (lawful_commit (size p) (present p 0))) [
         | inr n ↦ absurd (different fault.Unlawful (unlawful_says (Ok tt) f (not_from_Decides _ (lawful_decides (size p) (present p 0)) n)).0)
@@ -77,7 +76,7 @@ module _ (m : Meaning) (d p e : Disk) (fits : lawful_size (size d) ≡ true) (po
             }))))
       ]
 
-  inspect_unlawful : (r : Result ℕ Refusal) → Finishes p (Err fault.Unlawful) e → r ≡ refused BadCommitBlock 0 → Inspects m d r e
+  inspect_unlawful : (r : Result ℕ Refusal) → Finishes p (Err fault.Unlawful) e → r ≡ refused BadCommitBlock 0 → PoweredOn m d r e
   inspect_unlawful r f a =
       elim (cases_Bool (lawful_commit (size p) (present p 0))) [
         | inr n ↦ (
@@ -86,7 +85,7 @@ module _ (m : Meaning) (d p e : Disk) (fits : lawful_size (size d) ≡ true) (po
         | inl y ↦ absurd (let q = (f.met powers.met.on wide ((lawful_decides (size p) (present p 0)).0 y)).0 in let z : ◌≡◌ {A = ℕ} 0 1 = cc in omega arith)
       ]
 
-  inspect_lost : (r : Result ℕ Refusal) (x : FinishFault) → (x ≡ fault.Unlawful → ⊥) → Finishes p (Err x) e → r ≡ Err (lost_at Starting) → Inspects m d r e
+  inspect_lost : (r : Result ℕ Refusal) (x : FinishFault) → (x ≡ fault.Unlawful → ⊥) → Finishes p (Err x) e → r ≡ Err (lost_at Starting) → PoweredOn m d r e
   inspect_lost r x nu f a =
       elim (cases_Bool (lawful_commit (size p) (present p 0))) [
         | inr n ↦ absurd (nu (same_fault x fault.Unlawful (unlawful_says (Err x) f (not_from_Decides _ (lawful_decides (size p) (present p 0)) n)).0))
@@ -95,12 +94,12 @@ module _ (m : Meaning) (d p e : Disk) (fits : lawful_size (size d) ≡ true) (po
             inspected r (inl (record { answer = a; lawful = lawful; cut = (f.met powers.met.on wide lawful).1 })))
       ]
 
-  inspect_unfinished : (r : Result ℕ Refusal) (x : FinishFault) → Finishes p (Err x) e → r ≡ unfinished_for x → Inspects m d r e
+  inspect_unfinished : (r : Result ℕ Refusal) (x : FinishFault) → Finishes p (Err x) e → r ≡ unfinished_for x → PoweredOn m d r e
   inspect_unfinished r fault.Off f a = inspect_lost r fault.Off (λ q. (let z : ◌≡◌ {A = ℕ} 0 1 = cc in omega arith)) f a
   inspect_unfinished r fault.Unlawful f a = inspect_unlawful r f a
   inspect_unfinished r fault.PowerLost f a = inspect_lost r fault.PowerLost (λ q. (let z : ◌≡◌ {A = ℕ} 0 1 = cc in omega arith)) f a
 
   -- finishing did not end, and the answer says so
-  pub inspect_refused : (f : Result (Unit {0}) FinishFault) (r : Result ℕ Refusal) → Finishes p f e → MatchResult f (λ _. ⊥) (λ x. r ≡ unfinished_for x) → Inspects m d r e
+  pub inspect_refused : (f : Result (Unit {0}) FinishFault) (r : Result ℕ Refusal) → Finishes p f e → MatchResult f (λ _. ⊥) (λ x. r ≡ unfinished_for x) → PoweredOn m d r e
   inspect_refused (Ok x) r f h = absurd h
   inspect_refused (Err x) r f h = inspect_unfinished r x f h

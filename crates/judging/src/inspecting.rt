@@ -1,5 +1,7 @@
-ghost use Rattle.std.specs.Prelude.{◌≡◌, Err};
-ghost use Rattle.judging.specs.Inspects.{Inspects, unfinished_for};
+ghost use Rattle.std.specs.Prelude.{◌≡◌, true, Err};
+ghost use Rattle.drives.specs.Disk.{size as size-of};
+ghost use Rattle.image.specs.Lawful.{lawful_size};
+ghost use Rattle.judging.specs.Inspects.{Inspects, PoweredOn, unfinished_for};
 
 use crate::judge::{judge, power_lost};
 use books::Book;
@@ -21,6 +23,7 @@ fn unfinished(fault: FinishFault) -> Refusal
 /// image earns.
 pub fn inspect<D: Drive, B: Book>(journal: &mut Journal<D>, book: &B) -> Result<u64, Refusal>
     ensures inspects { Inspects B.meaning (D.disk journal.old.drive) result (D.disk journal.new.drive) }
+    ensures powers_up { D.powers_up journal.old.drive ≡ true → lawful_size (size-of (D.disk journal.old.drive)) ≡ true → PoweredOn B.meaning (D.disk journal.old.drive) result (D.disk journal.new.drive) }
 {
     let size = journal.size();
     if size < 35 || size > 1024 {

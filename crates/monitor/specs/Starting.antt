@@ -58,6 +58,12 @@ pub record FormatLost (xs : List (List ℕ)) (s : Machine) (e : Refusal) (t : Ma
   pub stage : t.stage ≡ Dark
   pub outcome : Cut s.disk t.disk ⊎ ((left : Disk) × Powered s.disk left × LaidHalf xs left t.disk)
 
+-- power was turned on, and the blocks were laid down then, or power was lost on the way
+pub record LaysDownPowered (xs : List (List ℕ)) (s : Machine) (r : Result ℕ Refusal) (t : Machine) : Type 0 where
+  pub left : Disk
+  pub powered : Powered s.disk left
+  pub lays : MatchResult r (λ _. LaidDown xs left t.disk) (λ _. LaidHalf xs left t.disk)
+
 abbrev pub Starts : List (List ℕ) → Result (Unit {0}) Refusal → Machine → Result ℕ Refusal → Machine → Type 0
 Starts xs (Err e) s r t = Refuses s e r t
 Starts xs (Ok _) s r t = MatchResult r (λ n. (n ≡ 0) × FormatDone xs s t) (λ e. FormatLost xs s e t)

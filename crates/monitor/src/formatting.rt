@@ -2,7 +2,7 @@ ghost use Rattle.std.specs.Prelude.{◌≡◌, ◌^◌, ◌<◌, true, Ok, lengt
 ghost use Rattle.drives.specs.Disk.{size};
 ghost use Rattle.image.specs.Lawful.{lawful_size};
 ghost use Rattle.monitor.specs.Machine.{machine};
-ghost use Rattle.monitor.specs.Starting.{formattable, first_home, Formats};
+ghost use Rattle.monitor.specs.Starting.{formattable, first_home, Formats, LaysDownPowered};
 
 use crate::monitor::Monitor;
 use crate::stage::{CallKind, Stage, admit};
@@ -72,6 +72,7 @@ impl<D: Drive, B: Book> Monitor<D, B> {
     /// Begins the books anew: this house, this roll of 16 words, these opening items, no rows and no records.
     pub fn format(&mut self, house: u64, roll: &[u8], opening: &[u64]) -> Result<u64, Refusal>
         ensures formats { Formats B.meaning (machine self.old.stage (D.disk self.old.journal.drive)) house roll.now opening.now result (machine self.new.stage (D.disk self.new.journal.drive)) }
+        ensures powers_up { D.powers_up self.old.journal.drive ≡ true → Ok tt ≡ formattable B.meaning (size (D.disk self.old.journal.drive)) house roll.now opening.now → LaysDownPowered (first_home B.meaning house roll.now opening.now) (machine self.old.stage (D.disk self.old.journal.drive)) result (machine self.new.stage (D.disk self.new.journal.drive)) }
     {
         admit(self.stage, CallKind::Starting)?;
         check_format(&self.book, self.journal.size(), house, roll, opening)?;

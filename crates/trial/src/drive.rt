@@ -1,4 +1,4 @@
-ghost use Rattle.std.specs.Prelude.{◌≡◌, ◌/◌, Ok, length};
+ghost use Rattle.std.specs.Prelude.{◌≡◌, ◌/◌, true, Ok, length, IsOk};
 ghost use Rattle.drives.specs.Disk.{size as type_size};
 ghost use Rattle.drives.specs.Calls.{Reads, Writes, Flushes, Powers};
 ghost use Rattle.trial.specs.Bytes.{disk_of};
@@ -101,6 +101,8 @@ impl<'a> Drive for TrialDrive<'a> {
 
     ghost disk = { λ t. disk_of t.on t.bytes.now };
 
+    ghost powers_up = { λ t. true };
+
     fn size(&self) -> u64
         ensures value { result ≡ type_size (disk_of self.now.on self.now.bytes.now) }
         ensures whole_blocks { result ≡ length (state_of self.now).bytes / 64 }
@@ -163,6 +165,7 @@ impl<'a> Drive for TrialDrive<'a> {
     /// Always done.
     fn power(&mut self) -> Result<(), DriveFault>
         ensures powers { Powers (disk_of self.old.on self.old.bytes.now) result (disk_of self.new.on self.new.bytes.now) }
+        ensures done { IsOk result }
         ensures answer { result ≡ Ok tt }
         ensures state { state_of self.new ≡ power (state_of self.old) }
     {

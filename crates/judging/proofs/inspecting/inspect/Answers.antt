@@ -3,7 +3,7 @@ use Rattle.std.specs.Prelude.{MatchResult}
 use Rattle.drives.specs.Disk.{size}
 use Rattle.journals.specs.Outcomes.{PowersOn, Finishes}
 use Rattle.judging.specs.Inspects.{unfinished_for}
-use Rattle.judging.proofs.Starting.{size_lawful, inspect_judged, inspect_refused}
+use Rattle.judging.proofs.Starting.{size_lawful, inspect_judged, inspect_refused, inspects_on}
 use Rattle.judging.proofs.inspecting.inspect.Goals as goal
 
 -- finishing did not end
@@ -15,7 +15,9 @@ returns-in_err-map_err-2 g c =
     let fits = size_lawful c.size-size.result (size d) c.size-size.ensures.value c.if-size-lt35.false c.if-size-gt1024.false in
     let on : c.power.result ≡ Ok tt = search (rules, tests) in
     let says : MatchResult c.finish.result (λ _. ⊥) (λ x. c.from_residual-in_err-map_err-2.result ≡ unfinished_for x) = search (rules, tests) in
-    record { inspects = inspect_refused g.B.Book.meaning d p e fits (subst (λ z. PowersOn d z p) on c.power.ensures.powers) c.finish.result _ c.finish.ensures.finishes says }
+    let powers = subst (λ z. PowersOn d z p) on c.power.ensures.powers in
+    let met = inspect_refused g.B.Book.meaning d p e fits powers c.finish.result _ c.finish.ensures.finishes says in
+    record { inspects = inspects_on g.B.Book.meaning d p e fits powers _ met; powers_up = λ _ _. met }
 
 -- what stands was judged
 pub returns : goal.returns
@@ -26,4 +28,6 @@ returns g c =
     let fits = size_lawful c.size-size.result (size d) c.size-size.ensures.value c.if-size-lt35.false c.if-size-gt1024.false in
     let on : c.power.result ≡ Ok tt = search (rules, tests) in
     let ended : c.finish.result ≡ Ok tt = search (rules, tests) in
-    record { inspects = inspect_judged g.B.Book.meaning d p e fits (subst (λ z. PowersOn d z p) on c.power.ensures.powers) c.judge.result (subst (λ z. Finishes p z e) ended c.finish.ensures.finishes) c.judge.ensures.value }
+    let powers = subst (λ z. PowersOn d z p) on c.power.ensures.powers in
+    let met = inspect_judged g.B.Book.meaning d p e fits powers c.judge.result (subst (λ z. Finishes p z e) ended c.finish.ensures.finishes) c.judge.ensures.value in
+    record { inspects = inspects_on g.B.Book.meaning d p e fits powers _ met; powers_up = λ _ _. met }

@@ -39,6 +39,7 @@ returns-in-Ok g c =
         fits = λ i. (c.type_inv.opening i).fits;
         starts = starts_on xs _ s _ (machine Open e) tests (refl, record { stage = refl; left = p; powered = powered; laid = named });
       };
+      powers_up = λ _ _. record { left = p; powered = powered; lays = named };
     }
 
 pub returns-in-Err-lay_down : goal.returns-in-Err-lay_down
@@ -59,4 +60,5 @@ returns-in-Err-lay_down g c =
         fits = λ i. (c.type_inv.opening i).fits;
         starts = starts_on xs _ s _ (machine Dark e) tests (record { answer = c.power_lost-in-Err-lay_down.ensures.value; stage = refl; outcome = inr (p, powered, named) });
       };
+      powers_up = λ _ _. record { left = p; powered = powered; lays = named };
     }
