@@ -1,1 +1,3 @@
 mod Linking
+mod Everything
+mod Outcomes

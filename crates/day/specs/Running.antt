@@ -1,5 +1,5 @@
 -- What running a script comes to: a day that was kept on a new drive, the replies by its answers, and its audit.
-use Rattle.std.specs.Prelude.{◌≡◌, ℕ, List, ◌++◌, replicate, Some, None, Ok, Option, vec_items, IsSomeAnd}
+use Rattle.std.specs.Prelude.{◌≡◌, ℕ, List, ◌∷◌, ◌++◌, map, replicate, Some, None, Ok, Option, vec_items, IsSomeAnd}
 use Rattle.std.specs.List.{filter_map}
 use Rattle.records.specs.declared.record.Record.{Record}
 use Rattle.script.specs.declared.line.BookName.{BookName}
@@ -12,6 +12,8 @@ use Rattle.desk.specs.declared.answer.Answer.{Answer}
 use Rattle.desk.specs.declared.answer.Answer.TheVariants as answer
 use Rattle.day.specs.declared.audit.Audit.{Audit}
 use Rattle.day.specs.declared.audit.Audit.TheVariants as audit
+use Rattle.day.specs.declared.reply.Source.{Source}
+use Rattle.day.specs.declared.reply.Source.TheVariants.{Format, Attach, Line}
 use Rattle.day.specs.declared.reply.Reply.{Reply}
 use Rattle.day.specs.declared.running.Outcome.{Outcome}
 use Rattle.day.specs.Keeping.{Kept}
@@ -38,6 +40,10 @@ Shows stage.Open looks (audit.Records v) = vec_items v ≡ records_seen looks
 Shows stage.Open looks audit.Shut = ⊥
 Shows stage.Open looks audit.Dark = ⊥
 
+-- what the replies answer: the format, the attach, and every command in its order
+abbrev pub all_sources : List AskedAt → List Source
+all_sources commands = Format ∷ (Attach ∷ map (λ c. Line c.line) commands)
+
 -- a script that chose a book, run on a new drive of that book
 pub record RunsOn (b : BookName) (g : Gathered) (commands : List AskedAt) (replies : List Reply) (shown : Option Audit) : Type 0 where
   pub firsts : List Answer
@@ -46,6 +52,7 @@ pub record RunsOn (b : BookName) (g : Gathered) (commands : List AskedAt) (repli
   pub end : Machine
   pub day : Kept (meaning_of b) new_drive (first_requests g) (requests_of g commands) firsts answers looks end
   pub replied : replies ≡ replies_of (all_expected g commands) (firsts ++ answers)
+  pub everything : map (λ (r : Reply). r.source) replies ≡ all_sources commands
   pub audited : IsSomeAnd shown (Shows end.stage looks)
 
 -- what a script comes to, and last its bad line is refused; where it chose no book, there is no day

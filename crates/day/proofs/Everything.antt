@@ -1,0 +1,67 @@
+-- Every request of a session is answered, and so every command of a script is.
+use Rattle.std.proofs.Common.{◌≡◌, ℕ, ◌+◌, List, [], ◌∷◌, ◌++◌, map, length, Ok, Err, Result, refl, sym, ap, ◌∙◌, arith}
+use Rattle.std.specs.List.{flat_map}
+use Rattle.std.proofs.lemmas.List.{length-append}
+use Rattle.books.specs.Meaning.{Meaning}
+use Rattle.script.specs.Reading.{Gathered, AskedAt}
+use Rattle.monitor.specs.Machine.{Machine}
+use Rattle.desk.specs.declared.answer.Answer.{Answer}
+use Rattle.desk.specs.Serving.{Request, Desk, Session, begun, then}
+use Rattle.day.specs.declared.reply.Source.{Source}
+use Rattle.day.specs.declared.reply.Source.TheVariants.{Format, Attach, Line}
+use Rattle.day.specs.declared.reply.Said.{Said}
+use Rattle.day.specs.declared.reply.Reply.{Reply}
+use Rattle.day.specs.Keeping.{Kept}
+use Rattle.day.specs.Planning.{planned, asks, said_at_once, first_requests, requests_of, expected_of, all_expected}
+use Rattle.day.specs.Replies.{replies_of}
+use Rattle.day.specs.Running.{all_sources}
+
+-- a session has an answer for each request
+pub as_many : (m : Meaning) (w : Desk) (cs : List Request) (rs : List Answer) (v : Desk) → Session m w cs rs v → length rs ≡ length cs
+as_many m w _ _ _ begun = refl
+as_many m w _ _ _ (then {cs} {rs} {u} {v} c a h k) =
+    length-append rs (a ∷ []) ∙ ap (λ n. n + 1) (as_many m w cs rs u h) ∙ sym (length-append cs (c ∷ []))
+
+abbrev pub sources : List Reply → List Source
+sources rs = map (λ (r : Reply). r.source) rs
+
+module _ (g : Gathered) where
+  abbrev pub asked : List AskedAt → List Request
+  asked cs = flat_map (λ (c : AskedAt). asks (planned g c.asked)) cs
+
+  -- one line more, by its plan
+  one_line :
+      (k : ℕ) (p : Result Request Said) (cs : List AskedAt) (answers : List Answer)
+      → ((later : List Answer) → length later ≡ length (asked cs) → sources (replies_of (map (expected_of g) cs) later) ≡ map (λ (c : AskedAt). Line c.line) cs)
+      → length answers ≡ length (asks p ++ asked cs)
+      → sources (replies_of (record { source = Line k; said = said_at_once p } ∷ map (expected_of g) cs) answers) ≡ Line k ∷ map (λ (c : AskedAt). Line c.line) cs
+  one_line k (Err s) cs answers rest e = ap (λ z. Line k ∷ z) (rest answers e)
+  one_line k (Ok q) cs [] rest e = absurd (omega arith)
+  one_line k (Ok q) cs (a ∷ later) rest e =
+      let fewer : length later ≡ length (asked cs) = omega arith in
+      ap (λ z. Line k ∷ z) (rest later fewer)
+
+  -- every command's line is replied to
+  every_line :
+      (cs : List AskedAt) (answers : List Answer) → length answers ≡ length (asked cs)
+      → sources (replies_of (map (expected_of g) cs) answers) ≡ map (λ (c : AskedAt). Line c.line) cs
+  every_line [] answers e = refl
+  every_line (c ∷ cs) answers e = one_line c.line (planned g c.asked) cs answers (every_line cs) e
+
+  replied :
+      (cs : List AskedAt) (firsts answers : List Answer) → length firsts ≡ 1 → length answers ≡ 1 + length (asked cs)
+      → sources (replies_of (all_expected g cs) (firsts ++ answers)) ≡ all_sources cs
+  replied cs [] answers e f = absurd (omega arith)
+  replied cs (a ∷ (b ∷ more)) answers e f = absurd (omega arith)
+  replied cs (a ∷ []) [] e f = absurd (omega arith)
+  replied cs (a ∷ []) (b ∷ later) e f =
+      let fewer : length later ≡ length (asked cs) = omega arith in
+      ap (λ z. Format ∷ (Attach ∷ z)) (every_line cs later fewer)
+
+  -- of a day that was kept
+  pub everything :
+      (m : Meaning) (bytes : List ℕ) (cs : List AskedAt) (firsts answers looks : List Answer) (end : Machine)
+      → Kept m bytes (first_requests g) (requests_of g cs) firsts answers looks end
+      → sources (replies_of (all_expected g cs) (firsts ++ answers)) ≡ all_sources cs
+  everything m bytes cs firsts answers looks end k =
+      replied cs firsts answers (as_many m _ _ firsts _ k.starts.session) (as_many m _ _ answers _ k.day.session ∙ omega arith)
