@@ -1,4 +1,4 @@
-ghost use Rattle.std.specs.Prelude.{◌≡◌, ◌≤◌, ◌&&◌, Ok, nat_le};
+ghost use Rattle.std.specs.Prelude.{◌≡◌, ◌≤◌, ◌&&◌, false, Ok, IfOk, nat_le};
 ghost use Rattle.std.specs.Str.{bytes_eq};
 ghost use Rattle.journals.specs.Redo.{home};
 ghost use Rattle.image.specs.Home.{word_on};
@@ -68,6 +68,7 @@ impl<D: Drive, B: Book> Monitor<D, B> {
     /// Enters a note: a slip, for another person to countersign. Refused, the note is void.
     pub fn enter(&self, user: u64, word: &[u8], note: Note) -> Result<Slip, Refusal>
         ensures answer { entered_by result ≡ entered B.meaning (machine self.now.stage (D.disk self.now.journal.drive)) user word.now (numbers_of note) }
+        ensures unspent { IfOk result (λ slip. slip.spent ≡ false) }
     {
         admit(self.stage, CallKind::Working)?;
         let reader = Reader {

@@ -12,7 +12,7 @@ pub struct Verdicts {
 }
 
 /// Judges each image that differs from this one in one byte, which is one higher.
-pub fn sweep_damage<B: Book>(book: &B, image: &[u8], scratch: &mut [u8]) -> Verdicts {
+pub(crate) fn sweep_damage<B: Book>(book: &B, image: &[u8], scratch: &mut [u8]) -> Verdicts {
     let mut verdicts = Verdicts {
         lawful: 0,
         refused: [0; 32],

@@ -103,7 +103,7 @@ fn tally_of<'t, 'a, B: Book>(
 }
 
 /// Keeps the day of a script on a fresh drive over some bytes, with some cut numbers.
-pub fn keep_cut<'a, B: Book + Drop + Copy>(
+pub(crate) fn keep_cut<'a, B: Book + Drop + Copy>(
     heap: Global,
     book: B,
     script: &'a Script<'a>,

@@ -36,7 +36,7 @@ pub struct Tray<'a> {
 }
 
 impl<'a> Tray<'a> {
-    pub fn new(heap: Global) -> Tray<'a> {
+    pub(crate) fn new(heap: Global) -> Tray<'a> {
         Tray {
             tickets: Vec::new(heap),
         }
@@ -94,7 +94,7 @@ fn record_of<'a>(
 
 impl Tally {
     /// At format: the opening, free rows and no records.
-    pub fn opened(heap: Global, opening: &[u64]) -> Tally {
+    pub(crate) fn opened(heap: Global, opening: &[u64]) -> Tally {
         let mut items = [0; 64];
         for (item, code) in items.iter_mut().zip(opening) {
             *item = *code;
@@ -132,7 +132,7 @@ impl Tally {
     }
 
     /// An accepted attach settles the change in doubt.
-    pub fn attach<B: Book>(&mut self, book: &B, answer: Answer) -> Result<(), AllocError> {
+    pub(crate) fn attach<B: Book>(&mut self, book: &B, answer: Answer) -> Result<(), AllocError> {
         if let Answer::Count(Ok(count)) = answer {
             let one_more = count == (self.records.len() as u64).saturating_add(1);
             if let Some(entry) = self.doubt.take().filter(|_| one_more) {
@@ -143,7 +143,7 @@ impl Tally {
     }
 
     /// A command and its answer.
-    pub fn feed<'a, B: Book>(
+    pub(crate) fn feed<'a, B: Book>(
         &mut self,
         heap: Global,
         book: &B,
