@@ -1,5 +1,5 @@
 -- Looks at records, one after another: they change nothing, and show the records of the tally.
-use Rattle.std.proofs.Common.{◌≡◌, ℕ, ◌+◌, ◌<◌, ◌≤◌, zero, suc, Bool, true, false, ◌&&◌, cond, nat_le, List, [], ◌∷◌, ◌++◌, map, take, length, Some, None, Ok, Err, Option, Result, refl, sym, ap, subst, ◌∙◌, arith}
+use Rattle.std.proofs.Common.{◌≡◌, ℕ, ◌+◌, ◌<◌, ◌≤◌, zero, suc, Bool, true, false, ◌&&◌, nat_le, List, [], ◌∷◌, ◌++◌, map, take, Some, None, Ok, Option, refl, sym, ap, subst, ◌∙◌, arith}
 use Rattle.std.specs.List.{list_all, range_with_len}
 use Rattle.std.proofs.lemmas.List.{map-append}
 use Rattle.std.proofs.lemmas.List.Folds.{list_all-append}
@@ -7,8 +7,7 @@ use Rattle.std.proofs.lemmas.Bool.{le-leb, lt-leb}
 use Rattle.books.specs.Meaning.{Meaning}
 use Rattle.drives.specs.Disk.{Disk}
 use Rattle.records.specs.declared.record.Record.{Record}
-use Rattle.image.specs.Home.{count_on, record_on, records_on}
-use Rattle.monitor.specs.declared.stage.Stage.{Stage}
+use Rattle.image.specs.Home.{count_on, record_on}
 use Rattle.monitor.specs.declared.stage.Stage.TheVariants.{Open}
 use Rattle.monitor.specs.Machine.{Machine, machine, home_of}
 use Rattle.monitor.specs.Asking.{record_seen}
