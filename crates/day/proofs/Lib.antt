@@ -1,3 +1,4 @@
 mod Linking
 mod Everything
+mod Looks
 mod Outcomes

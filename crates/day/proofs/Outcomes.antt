@@ -12,6 +12,7 @@ use Rattle.day.specs.Keeping.{KeptAs}
 use Rattle.day.specs.Planning.{first_requests, requests_of, all_expected}
 use Rattle.day.specs.Replies.{replies_of}
 use Rattle.day.specs.Running.{new_drive, Shows, RunsOn}
+use Rattle.day.proofs.Looks.{tells_tally}
 use Rattle.day.proofs.Everything.{sources, everything}
 
 pub runs_on :
@@ -32,5 +33,6 @@ runs_on b g cs day xs (Ok o) (end, at, k) x s a =
       day = k;
       replied = told;
       everything = ap sources told ∙ everything g (meaning_of b) new_drive cs _ _ _ end k;
+      tells_tally = tells_tally (meaning_of b) _ _ _ _ _ _ end k;
       audited = subst (λ (z : Stage). IsSomeAnd o.audit (Shows z (vec_items day.audit))) (sym at) a;
     }

@@ -1,6 +1,7 @@
 -- What running a script comes to: a day that was kept on a new drive, the replies by its answers, and its audit.
-use Rattle.std.specs.Prelude.{◌≡◌, ℕ, List, ◌∷◌, ◌++◌, map, replicate, Some, None, Ok, Option, vec_items, IsSomeAnd}
+use Rattle.std.specs.Prelude.{◌≡◌, ℕ, List, ◌∷◌, ◌++◌, map, replicate, take, Some, None, Ok, Option, vec_items, IsSomeAnd}
 use Rattle.std.specs.List.{filter_map}
+use Rattle.books.specs.Meaning.{Meaning}
 use Rattle.records.specs.declared.record.Record.{Record}
 use Rattle.script.specs.declared.line.BookName.{BookName}
 use Rattle.script.specs.Grammar.{meaning_of}
@@ -8,6 +9,9 @@ use Rattle.script.specs.Reading.{Gathered, AskedAt, Reading}
 use Rattle.monitor.specs.declared.stage.Stage.{Stage}
 use Rattle.monitor.specs.declared.stage.Stage.TheVariants as stage
 use Rattle.monitor.specs.Machine.{Machine}
+use Rattle.histories.specs.Events.{Event}
+use Rattle.histories.specs.Law.{Known}
+use Rattle.histories.specs.Tally.{tally}
 use Rattle.desk.specs.declared.answer.Answer.{Answer}
 use Rattle.desk.specs.declared.answer.Answer.TheVariants as answer
 use Rattle.day.specs.declared.audit.Audit.{Audit}
@@ -32,6 +36,10 @@ record_seen _ = None
 abbrev pub records_seen : List Answer → List Record
 records_seen looks = filter_map record_seen looks
 
+-- where there is a tally of what the books should hold, the records that were seen are its records, up to the thirtieth
+abbrev pub TellsTally : Meaning → List Event → List Answer → Type 0
+TellsTally m happened looks = Known (tally m happened) (λ t. records_seen looks ≡ take 30 t.books.records)
+
 -- what is shown of the audit at a stage: its records exactly if the monitor is open
 abbrev pub Shows : Stage → List Answer → Audit → Type 0
 Shows stage.Shut looks a = a ≡ audit.Shut
@@ -53,6 +61,7 @@ pub record RunsOn (b : BookName) (g : Gathered) (commands : List AskedAt) (repli
   pub day : Kept (meaning_of b) new_drive (first_requests g) (requests_of g commands) firsts answers looks end
   pub replied : replies ≡ replies_of (all_expected g commands) (firsts ++ answers)
   pub everything : map (λ (r : Reply). r.source) replies ≡ all_sources commands
+  pub tells_tally : end.stage ≡ stage.Open → TellsTally (meaning_of b) day.happened looks
   pub audited : IsSomeAnd shown (Shows end.stage looks)
 
 -- what a script comes to, and last its bad line is refused; where it chose no book, there is no day
