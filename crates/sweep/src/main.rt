@@ -89,7 +89,8 @@ fn sweep_after<B: Book + Drop + Copy>(
             let mut both = cuts.clone()?;
             both.push(landing.saturating_add(again))?;
             let end = keep(rt, book, &*script, bytes, both.as_slice())?;
-            if !end.in_start {
+            // A format that is cut leaves no tally to compare with: once is enough, above.
+            if !end.in_start || end.stood == Stood::NoTally {
                 break;
             }
             ends.add(4, end);
