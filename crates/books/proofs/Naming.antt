@@ -1,11 +1,12 @@
 -- The search for the procedure that a word names: the first whose word it is.
 use Rattle.std.proofs.Common.{◌≡◌, ℕ, suc, ◌+◌, cond, List, [], ◌∷◌, length, Some, Option, refl, ap, ◌∙◌, add-one, arith}
 use Rattle.std.specs.List.{find, range_with_len}
+use Rattle.std.specs.Prelude.{slice_get}
 use Rattle.std.specs.Str.{bytes_eq}
-use Rattle.books.specs.Words.{at, word_of, is_word, named, named_from}
+use Rattle.books.specs.Words.{word_of, is_word, named, named_from}
 
 -- counted on from k, where g gives the words that are left
-find_from : (g : ℕ → Option (List ℕ)) (ws : List (List ℕ)) (k : ℕ) (w : List ℕ) → ((i : ℕ) → g (k + i) ≡ at ws i) → find (λ p. is_word (g p) w) (range_with_len k (length ws)) ≡ named_from k ws w
+find_from : (g : ℕ → Option (List ℕ)) (ws : List (List ℕ)) (k : ℕ) (w : List ℕ) → ((i : ℕ) → g (k + i) ≡ slice_get ws i) → find (λ p. is_word (g p) w) (range_with_len k (length ws)) ≡ named_from k ws w
 find_from g [] k w h = refl
 find_from g (v ∷ vs) k w h =
     let here : g k ≡ Some v = ap g (omega arith) ∙ h 0 in

@@ -2,16 +2,17 @@
 use Rattle.std.specs.Prelude.{◌≡◌, ℕ, ◌^◌, ◌<◌, ◌≤◌, Bool, true, false, ◌&&◌, ◌⊎◌, List, length, Ok, Err, Result, ◌≢◌, nat_le, slice_index, slice_set}
 use Rattle.refusals.specs.declared.step_place.StepPlace.{StepPlace}
 use Rattle.refusals.specs.declared.step_place.StepPlace.TheVariants.{Items, Amount}
+use Rattle.books.specs.declared.draft.Draft.{Draft}
 
 -- kind: the book's number; ceiling: the largest amount of one note; words: the names of procedures 1, 2 and so on,
--- as bytes; valid: the lists of codes that the book allows; step: what a procedure on items a and b with an amount
--- gives from their two codes, or the place where it refuses
+-- as bytes; valid: the lists of codes that the book allows; step: what a draft's procedure on items a and b with its
+-- amount gives from their two codes, or the place where it refuses
 pub record Meaning : Type 0 where
   pub kind : ℕ
   pub ceiling : ℕ
   pub words : List (List ℕ)
   pub valid : List ℕ → Bool
-  pub step : ℕ → ℕ → ℕ → ℕ → ℕ → ℕ → Result (ℕ × ℕ) StepPlace
+  pub step : Draft → ℕ × ℕ → Result (ℕ × ℕ) StepPlace
 
 -- an amount that one note may carry
 abbrev pub amount_ok : ℕ → ℕ → Bool
@@ -29,29 +30,36 @@ KindInRange m = (1 ≤ m.kind) × (m.kind ≤ 255)
 abbrev pub CeilingInRange : Meaning → Type 0
 CeilingInRange m = m.ceiling ≤ 1000000000
 
+-- the codes of items a and b
+abbrev pub codes_at : List ℕ → ℕ → ℕ → ℕ × ℕ
+codes_at codes a b = (slice_index codes a, slice_index codes b)
+
 -- a valid list stays valid when the codes of two different items are replaced by what the step gives
 abbrev pub StepKeepsValid : Meaning → Type 0
 StepKeepsValid m =
-    (codes : List ℕ) (p a b n x y : ℕ) →
-    a < 64 → b < 64 → (a ≢ b) →
+    (codes : List ℕ) (d : Draft) (x y : ℕ) →
+    d.a < 64 → d.b < 64 → (d.a ≢ d.b) →
     m.valid codes ≡ true →
-    m.step p a b (slice_index codes a) (slice_index codes b) n ≡ Ok (x, y) →
-    m.valid (slice_set (slice_set codes a x) b y) ≡ true
+    m.step d (codes_at codes d.a d.b) ≡ Ok (x, y) →
+    m.valid (slice_set (slice_set codes d.a x) d.b y) ≡ true
 
 -- the step's tests in their order: place 1 is a procedure without a word or items that it does not take, whatever the
 -- codes and the amount; place 2 an amount that is not from 1 to the ceiling
 pub record StepTests (m : Meaning) : Type 0 where
-  pub needs_word : (p a b x y n : ℕ) → has_procedure m p ≡ false → m.step p a b x y n ≡ Err Items
-  pub items_alone : (p a b x y n x' y' n' : ℕ) → m.step p a b x y n ≡ Err Items → m.step p a b x' y' n' ≡ Err Items
+  pub needs_word : (d : Draft) (codes : ℕ × ℕ) → has_procedure m d.procedure ≡ false → m.step d codes ≡ Err Items
+  pub items_alone :
+      (d : Draft) (codes codes' : ℕ × ℕ) (n : ℕ) →
+      m.step d codes ≡ Err Items → m.step (record d { amount = n }) codes' ≡ Err Items
   pub needs_amount :
-      (p a b x y n : ℕ) → amount_ok m.ceiling n ≡ false
-      → (m.step p a b x y n ≡ Err Items) ⊎ (m.step p a b x y n ≡ Err Amount)
-  pub amount_alone : (p a b x y n : ℕ) → m.step p a b x y n ≡ Err Amount → amount_ok m.ceiling n ≡ false
+      (d : Draft) (codes : ℕ × ℕ) → amount_ok m.ceiling d.amount ≡ false →
+      (m.step d codes ≡ Err Items) ⊎ (m.step d codes ≡ Err Amount)
+  pub amount_alone :
+      (d : Draft) (codes : ℕ × ℕ) → m.step d codes ≡ Err Amount → amount_ok m.ceiling d.amount ≡ false
 
 -- from codes of 64 bits the step gives codes of 64 bits
 abbrev pub StepGivesCodes : Meaning → Type 0
 StepGivesCodes m =
-    (p a b x y n x' y' : ℕ) →
-    x < 2 ^ 64 → y < 2 ^ 64 →
-    m.step p a b x y n ≡ Ok (x', y') →
-    (x' < 2 ^ 64) × (y' < 2 ^ 64)
+    (d : Draft) (codes : ℕ × ℕ) (x y : ℕ) →
+    codes.0 < 2 ^ 64 → codes.1 < 2 ^ 64 →
+    m.step d codes ≡ Ok (x, y) →
+    (x < 2 ^ 64) × (y < 2 ^ 64)

@@ -1,19 +1,13 @@
 -- The words that name a book's procedures: the first word names procedure 1, the next 2, and so on.
-use Rattle.std.specs.Prelude.{◌≡◌, ℕ, zero, suc, ◌≤◌, Bool, true, false, cond, not, ◌&&◌, ◌||◌, List, [], ◌∷◌, length, Some, None, Option, nat_le}
+use Rattle.std.specs.Prelude.{◌≡◌, ℕ, zero, suc, ◌≤◌, Bool, true, false, not, ◌&&◌, ◌||◌, List, [], ◌∷◌, length, Some, None, Option, nat_le, slice_get, if◌then◌else◌}
 use Rattle.std.specs.Str.{bytes_eq}
-use Rattle.lists.specs.Every.{all}
+use Rattle.std.specs.List.{list_all}
 use Rattle.books.specs.Meaning.{Meaning}
-
--- the word at a place from 0
-abbrev pub at : List (List ℕ) → ℕ → Option (List ℕ)
-at [] k = None
-at (w ∷ ws) zero = Some w
-at (w ∷ ws) (suc k) = at ws k
 
 -- the word of a procedure: none for 0, and none past the last
 abbrev pub word_of : List (List ℕ) → ℕ → Option (List ℕ)
 word_of ws zero = None
-word_of ws (suc k) = at ws k
+word_of ws (suc k) = slice_get ws k
 
 -- whether a word is this one
 abbrev pub is_word : Option (List ℕ) → List ℕ → Bool
@@ -23,7 +17,7 @@ is_word (Some v) w = bytes_eq v w
 -- the procedure that a word names, counted on from p
 abbrev pub named_from : ℕ → List (List ℕ) → List ℕ → Option ℕ
 named_from p [] w = None
-named_from p (v ∷ vs) w = cond (bytes_eq v w) (Some p) (named_from (suc p) vs w)
+named_from p (v ∷ vs) w = if bytes_eq v w then Some p else named_from (suc p) vs w
 
 -- the procedure that a word names
 abbrev pub named : List (List ℕ) → List ℕ → Option ℕ
@@ -34,12 +28,12 @@ letter b = (nat_le 65 b && nat_le b 90) || (nat_le 97 b && nat_le b 122)
 
 -- a word of 1 to 8 letters
 abbrev pub proper_word : List ℕ → Bool
-proper_word w = (nat_le 1 (length w) && nat_le (length w) 8) && all letter w
+proper_word w = (nat_le 1 (length w) && nat_le (length w) 8) && list_all letter w
 
 -- no word stands twice
 abbrev pub apart : List (List ℕ) → Bool
 apart [] = true
-apart (w ∷ ws) = all (λ v. not (bytes_eq w v)) ws && apart ws
+apart (w ∷ ws) = list_all (λ v. not (bytes_eq w v)) ws && apart ws
 
 -- up to 7 words
 abbrev pub FewWords : Meaning → Type 0
@@ -47,4 +41,4 @@ FewWords m = length m.words ≤ 7
 
 -- of 1 to 8 letters each, no two the same
 abbrev pub ProperWords : Meaning → Type 0
-ProperWords m = (all proper_word m.words && apart m.words) ≡ true
+ProperWords m = (list_all proper_word m.words && apart m.words) ≡ true

@@ -46,7 +46,7 @@ pub trait Book {
 
     /// The step: the new codes of items a and b, from their codes, or where it refuses.
     fn step(&self, draft: Draft, codes: (u64, u64)) -> Result<(u64, u64), StepPlace>
-        ensures value { result ≡ meaning.step draft.procedure draft.a draft.b codes.0 codes.1 draft.amount };
+        ensures value { result ≡ meaning.step draft codes };
 
     ghost kind_is: { KIND ≡ meaning.kind };
 

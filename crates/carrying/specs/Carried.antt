@@ -1,55 +1,82 @@
 -- Carrying out one record, and a list of them: the tests of the record's call in their order, then its effect.
-use Rattle.std.specs.Prelude.{ℕ, cond, List, [], ◌∷◌, Some, None, Ok, Err, Option, Result, ◌==◌, nat_lt}
+use Rattle.std.specs.Prelude.{ℕ, if◌then◌else◌, not, List, [], ◌∷◌, Some, None, Ok, Err, Option, Result, ◌==◌}
 use Rattle.refusals.specs.declared.reasons.Reason.{Reason}
-use Rattle.refusals.specs.declared.reasons.Reason.TheVariants.{EntererNotEntitled, SamePerson, CountersignerNotEntitled, AuditFull, StepRefused, InvalidAfter}
+use Rattle.refusals.specs.declared.reasons.Reason.TheVariants.{EntererNotEntitled, SamePerson, CountersignerNotEntitled, StepRefused, InvalidAfter}
 use Rattle.refusals.specs.declared.refusal.Refusal.{Refusal}
 use Rattle.refusals.specs.declared.step_place.StepPlace.{StepPlace}
 use Rattle.refusals.specs.Places.{step_place_number}
-use Rattle.refusals.specs.Refused.{refused, and_then}
+use Rattle.refusals.specs.Refused.{refused, ◌>>=◌, ◌>>◌}
 use Rattle.books.specs.Meaning.{Meaning}
+use Rattle.notes.specs.declared.numbers.Numbers.{Numbers}
 use Rattle.notes.specs.Notes.{noted}
 use Rattle.rights.specs.Covers.{uncovered}
+use Rattle.rights.specs.declared.row.Asked.{Asked}
 use Rattle.rights.specs.declared.row.Role.TheVariants.{Enter, Countersign}
+use Rattle.records.specs.declared.record.Posting.{Posting}
 use Rattle.records.specs.declared.record.Record.{Record}
-use Rattle.records.specs.declared.record.Record.TheVariants.{Posting, Certification, Strike}
-use Rattle.carrying.specs.Standing.{Standing, with_codes, step_on}
-use Rattle.carrying.specs.Rows.{certified, struck}
+use Rattle.records.specs.declared.record.Record.TheVariants as entry
+use Rattle.carrying.specs.Standing.{Standing, with_codes, step_on, draft_of}
+use Rattle.carrying.specs.Rows.{certified, struck, had_room, row_draft_of}
+
+-- the posting of a note's numbers by the user who entered it and the user who countersigns it
+abbrev pub posting_of : Numbers → ℕ → ℕ → Posting
+posting_of n enterer countersigner = record {
+  enterer = enterer;
+  countersigner = countersigner;
+  procedure = n.procedure;
+  a = n.a;
+  b = n.b;
+  amount = n.amount;
+}
+
+-- what the rows are asked of the user who entered a posting
+abbrev pub enters : Posting → Asked
+enters p = record { user = p.enterer; procedure = p.procedure; role = Enter }
+
+-- and of the user who countersigned it
+abbrev pub countersigns : Posting → Asked
+countersigns p = record { user = p.countersigner; procedure = p.procedure; role = Countersign }
+
+-- the enterer is not the countersigner (11)
+abbrev pub two_people : Posting → Result (Unit {0}) Refusal
+two_people p = if p.countersigner == p.enterer then refused SamePerson p.countersigner else Ok tt
 
 -- refused at the item that no row covers, if there is one
-abbrev pub unless : {X : Type 0} → Reason → Option ℕ → Result X Refusal → Result X Refusal
-unless why None r = r
-unless why (Some item) r = refused why item
+abbrev pub none_uncovered : Reason → Option ℕ → Result (Unit {0}) Refusal
+none_uncovered why None = Ok tt
+none_uncovered why (Some item) = refused why item
 
--- the list after the step is valid (15)
+-- the codes that the step gives, or the place where it refuses (14)
+abbrev pub codes_given : Result (ℕ × ℕ) StepPlace → Result (ℕ × ℕ) Refusal
+codes_given (Ok codes) = Ok codes
+codes_given (Err place) = refused StepRefused (step_place_number place)
+
+-- the list is valid (15)
 abbrev pub if_valid : Meaning → Standing → Result Standing Refusal
-if_valid m t = cond (m.valid t.items) (Ok t) (refused InvalidAfter 0)
-
--- the step is taken (14)
-abbrev pub after_step : Meaning → Standing → ℕ → ℕ → Result (ℕ × ℕ) StepPlace → Result Standing Refusal
-after_step m s a b (Ok xy) = if_valid m (with_codes s a b xy.0 xy.1)
-after_step m s a b (Err e) = refused StepRefused (step_place_number e)
+if_valid m t = if not (m.valid t.items) then refused InvalidAfter 0 else Ok t
 
 -- a posting of a note: two different users (11), the enterer entitled in role 1 (9), the countersigner in role 2 (12), room
 -- (13), the step (14), a valid list after it (15)
-abbrev pub posted : Meaning → ℕ → Standing → ℕ → ℕ → ℕ → ℕ → ℕ → ℕ → Result Standing Refusal
-posted m room s enterer countersigner p a b n =
-    cond (countersigner == enterer)
-    (refused SamePerson countersigner)
-    (unless EntererNotEntitled (uncovered s.rows (record { user = enterer; procedure = p; role = Enter }) a b)
-    (unless CountersignerNotEntitled (uncovered s.rows (record { user = countersigner; procedure = p; role = Countersign }) a b)
-    (cond (nat_lt s.count room)
-    (after_step m s a b (step_on m s p a b n))
-    (refused AuditFull s.count))))
+abbrev pub posted : Meaning → ℕ → Standing → Posting → Result Standing Refusal
+posted m room s p = do
+  two_people p
+  none_uncovered EntererNotEntitled (uncovered s.rows (enters p) p.a p.b)
+  none_uncovered CountersignerNotEntitled (uncovered s.rows (countersigns p) p.a p.b)
+  had_room room s
+  codes ← codes_given (step_on m s (draft_of p))
+  if_valid m (with_codes s p.a p.b codes)
 
 -- one record, where there is room for so many; a posting after the four tests of its note (1 to 4)
 abbrev pub carried : Meaning → ℕ → Standing → Record → Result Standing Refusal
-carried m room s (Posting p) =
-    and_then (noted m p.procedure p.a p.b p.amount) (λ _. posted m room s p.enterer p.countersigner p.procedure p.a p.b p.amount)
-carried m room s (Certification c) =
-    certified m room s c.row (record { user = c.user; procedure = c.procedure; role = c.role; mask = c.mask })
-carried m room s (Strike k) = struck room s k
+carried m room s (entry.Posting p) = do
+  noted m (draft_of p)
+  posted m room s p
+carried m room s (entry.Certification c) = certified m room s (row_draft_of c)
+carried m room s (entry.Strike k) = struck room s k
 
 -- a list of records in order, up to the first that is refused
 abbrev pub carried_all : Meaning → ℕ → Standing → List Record → Result Standing Refusal
 carried_all m room s [] = Ok s
-carried_all m room s (x ∷ xs) = and_then (carried m room s x) (λ t. carried_all m room t xs)
+carried_all m room s (x ∷ xs) = do
+  t ← carried m room s x
+  carried_all m room t xs

@@ -1,15 +1,21 @@
 -- When a row may be filled or freed.
-use Rattle.std.specs.Prelude.{ℕ, ◌<◌, ◌≤◌, cond, ◌&&◌, ◌||◌, Ok, Result, ◌==◌, nat_le, nat_lt, slice_index_or}
+use Rattle.std.specs.Prelude.{ℕ, ◌<◌, ◌≤◌, if◌then◌else◌, not, ◌&&◌, ◌||◌, Ok, Result, ◌==◌, nat_le, nat_lt, slice_index_or}
 use Rattle.refusals.specs.declared.reasons.Reason.TheVariants.{AuditFull, BadRow, RowTaken}
 use Rattle.refusals.specs.declared.refusal.Refusal.{Refusal}
+use Rattle.refusals.specs.declared.row_place.RowPlace.{RowPlace}
 use Rattle.refusals.specs.declared.row_place.RowPlace.TheVariants as at
 use Rattle.refusals.specs.Places.{row_place_number}
-use Rattle.refusals.specs.Refused.{refused, and_then}
+use Rattle.refusals.specs.Refused.{refused, ◌>>=◌, ◌>>◌}
 use Rattle.books.specs.Meaning.{Meaning, has_procedure}
 use Rattle.rights.specs.Covers.{free, is_free}
 use Rattle.rights.specs.declared.row.Row.{Row}
+use Rattle.records.specs.declared.record.Certification.{Certification}
 use Rattle.carrying.specs.declared.row_draft.RowDraft.{RowDraft}
 use Rattle.carrying.specs.Standing.{Standing, with_row}
+
+-- what the row of a certification was typed as
+abbrev pub row_draft_of : Certification → RowDraft
+row_draft_of c = record { row = c.row; user = c.user; procedure = c.procedure; role = c.role; mask = c.mask }
 
 -- what a row that is asked for is to hold
 abbrev pub asked_row : RowDraft → Row
@@ -22,42 +28,44 @@ pub record InBytes (d : RowDraft) : Type 0 where
   pub procedure : d.procedure < 256
   pub role : d.role < 256
 
+-- refused as a row that cannot be certified or struck (23), by what is at fault with it
+abbrev pub bad_row : {X : Type 0} → RowPlace → Result X Refusal
+bad_row place = refused BadRow (row_place_number place)
+
 -- the row that a certification asks for, or what is at fault with it (23): the row above 31 (place 1), the user not from
 -- 1 to 15 (2), a procedure without a word (3), a role that is neither 1 nor 2 (4), a mask of 0 (5)
-abbrev pub checked_row : Meaning → ℕ → Row → Result Row Refusal
-checked_row m k w =
-    cond (nat_le k 31)
-    (cond (nat_le 1 w.user && nat_le w.user 15)
-    (cond (has_procedure m w.procedure)
-    (cond (w.role == 1 || w.role == 2)
-    (cond (w.mask == 0)
-    (refused BadRow (row_place_number at.Mask))
-    (Ok w))
-    (refused BadRow (row_place_number at.Role)))
-    (refused BadRow (row_place_number at.Procedure)))
-    (refused BadRow (row_place_number at.User)))
-    (refused BadRow (row_place_number at.Row))
+abbrev pub checked_row : Meaning → RowDraft → Result Row Refusal
+checked_row m d =
+    if not (nat_le d.row 31) then bad_row at.Row
+    else if not (nat_le 1 d.user && nat_le d.user 15) then bad_row at.User
+    else if not (has_procedure m d.procedure) then bad_row at.Procedure
+    else if not (d.role == 1 || d.role == 2) then bad_row at.Role
+    else if d.mask == 0 then bad_row at.Mask
+    else Ok (asked_row d)
 
 -- there is room for one record more (13)
-abbrev pub if_room : ℕ → Standing → Standing → Result Standing Refusal
-if_room room s t = cond (nat_lt s.count room) (Ok t) (refused AuditFull s.count)
+abbrev pub had_room : ℕ → Standing → Result (Unit {0}) Refusal
+had_room room s = if not (nat_lt s.count room) then refused AuditFull s.count else Ok tt
 
--- the row is free (24), and there is room
+-- a row replaced, where there is room for the record
+abbrev pub row_set : ℕ → Standing → ℕ → Row → Result Standing Refusal
+row_set room s k w = do
+  had_room room s
+  Ok (with_row s k w)
+
+-- the row is free (24), and there is room (13)
 abbrev pub filled : ℕ → Standing → ℕ → Row → Result Standing Refusal
-filled room s k w =
-    cond (is_free (slice_index_or s.rows k free))
-    (if_room room s (with_row s k w))
-    (refused RowTaken k)
+filled room s k w = if not (is_free (slice_index_or s.rows k free)) then refused RowTaken k else row_set room s k w
 
--- certification: the row's tests, then that it is free, then room
-abbrev pub certified : Meaning → ℕ → Standing → ℕ → Row → Result Standing Refusal
-certified m room s k w = and_then (checked_row m k w) (filled room s k)
+-- certification: the row's tests (23), then that it is free (24), then room (13)
+abbrev pub certified : Meaning → ℕ → Standing → RowDraft → Result Standing Refusal
+certified m room s d = do
+  w ← checked_row m d
+  filled room s d.row w
 
 -- strike: there is such a row (23), it is taken (24), and there is room (13)
 abbrev pub struck : ℕ → Standing → ℕ → Result Standing Refusal
 struck room s k =
-    cond (nat_le k 31)
-    (cond (is_free (slice_index_or s.rows k free))
-    (refused RowTaken k)
-    (if_room room s (with_row s k free)))
-    (refused BadRow (row_place_number at.Row))
+    if not (nat_le k 31) then bad_row at.Row
+    else if is_free (slice_index_or s.rows k free) then refused RowTaken k
+    else row_set room s k free

@@ -1,6 +1,4 @@
-ghost use Rattle.std.specs.Prelude.{◌≡◌, length, cond, Ok, nat_lt};
-ghost use Rattle.refusals.specs.declared.reasons.Reason.TheVariants.{AuditFull};
-ghost use Rattle.refusals.specs.Refused.{refused};
+ghost use Rattle.std.specs.Prelude.{◌≡◌, length};
 
 use refusals::{Reason, Refusal};
 use rights::Row;
@@ -18,9 +16,12 @@ pub struct Held {
 }
 
 impl Held {
+    ghost use Rattle.carrying.specs.Standing.{standing_of};
+    ghost use Rattle.carrying.specs.Rows.{had_room};
+
     /// Whether there is room for one record more, or the audit is full.
     pub(crate) fn check_room(&self) -> Result<(), Refusal>
-        ensures value { result ≡ cond (nat_lt self.now.count self.now.room) (Ok tt) (refused AuditFull self.now.count) }
+        ensures value { result ≡ had_room self.now.room (standing_of self.now) }
     {
         if self.count >= self.room {
             return Err(Refusal::at(Reason::AuditFull, self.count));

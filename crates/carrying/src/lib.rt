@@ -9,5 +9,6 @@ mod row_draft;
 mod rows;
 
 pub use held::Held;
+pub use posting::posting_of;
 pub use row_draft::RowDraft;
 pub use rows::check_row;

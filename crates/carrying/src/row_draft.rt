@@ -1,5 +1,3 @@
-ghost use Rattle.std.specs.Prelude.{◌≡◌};
-
 use records::Certification;
 
 /// What a certification is typed as: the row to fill, and what it is to hold, each any number of 64 bits.
@@ -14,7 +12,10 @@ pub struct RowDraft {
 
 /// What the row of a certification was typed as.
 impl From<Certification> for RowDraft {
-    ghost from_gives = { λ c d. d ≡ record { row = c.row; user = c.user; procedure = c.procedure; role = c.role; mask = c.mask } };
+    ghost use Rattle.std.specs.Prelude.{◌≡◌};
+    ghost use Rattle.carrying.specs.Rows.{row_draft_of};
+
+    ghost from_gives = { λ c d. d ≡ row_draft_of c };
 
     fn from(certification: Certification) -> RowDraft {
         RowDraft {

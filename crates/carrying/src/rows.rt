@@ -1,8 +1,8 @@
 ghost use Rattle.std.specs.Prelude.{◌≡◌, ◌<◌, ◌≤◌, OnOk};
 ghost use Rattle.refusals.specs.declared.reasons.Reason.TheVariants.{BadRow};
 ghost use Rattle.refusals.specs.Places.{row_place_number};
-ghost use Rattle.carrying.specs.Standing.{standing_of, with_row};
-ghost use Rattle.carrying.specs.Rows.{asked_row, checked_row, if_room, filled, certified, struck, InBytes};
+ghost use Rattle.carrying.specs.Standing.{standing_of};
+ghost use Rattle.carrying.specs.Rows.{checked_row, row_set, filled, certified, struck, InBytes};
 ghost use Rattle.carrying.specs.Results.{Leaves};
 
 use crate::held::Held;
@@ -19,9 +19,10 @@ fn bad_row(place: RowPlace) -> Refusal
     Refusal::at(Reason::BadRow, place.into())
 }
 
-/// The row that a certification asks for, or what is at fault with it.
+/// The row that a certification asks for, or what is at fault with it (refusal 23). The tests, in this order: the row is at
+/// most 31, the user from 1 to 15, the book has the procedure, the role is 1 or 2, and the mask is not 0.
 pub fn check_row<B: Book>(book: &B, draft: RowDraft) -> Result<Row, Refusal>
-    ensures value { result ≡ checked_row B.meaning draft.row (asked_row draft) }
+    ensures value { result ≡ checked_row B.meaning draft }
     ensures in_bytes { OnOk result (InBytes draft) }
 {
     if draft.row > 31 {
@@ -49,7 +50,8 @@ impl Held {
     /// Replaces a row, if there is room for the record.
     fn set_row(&mut self, place: u64, row: Row) -> Result<(), Refusal>
         requires within { place ≤ 31 }
-        ensures leaves { Leaves (if_room self.old.room (standing_of self.old) (with_row (standing_of self.old) place row)) self.old result self.new }
+        ensures leaves { Leaves (row_set self.old.room (standing_of self.old) place row)
+            self.old result self.new }
         ensures had_room { OnOk result (self.old.count < self.old.room) }
     {
         self.check_room()?;
@@ -61,7 +63,8 @@ impl Held {
     /// Fills a free row, if there is room for the record.
     fn fill(&mut self, place: u64, row: Row) -> Result<(), Refusal>
         requires within { place ≤ 31 }
-        ensures leaves { Leaves (filled self.old.room (standing_of self.old) place row) self.old result self.new }
+        ensures leaves { Leaves (filled self.old.room (standing_of self.old) place row)
+            self.old result self.new }
         ensures had_room { OnOk result (self.old.count < self.old.room) }
     {
         if !self.rows[place as usize].is_free() {
@@ -70,9 +73,11 @@ impl Held {
         self.set_row(place, row)
     }
 
-    /// Fills a row, if what is asked for is a row, it is free, and there is room for the record.
+    /// Fills a row, if what is asked for is a row (else refusal 23), it is free (24), and there is room for the record (13).
+    /// A refusal changes nothing.
     pub fn certify<B: Book>(&mut self, book: &B, draft: RowDraft) -> Result<(), Refusal>
-        ensures leaves { Leaves (certified B.meaning self.old.room (standing_of self.old) draft.row (asked_row draft)) self.old result self.new }
+        ensures leaves { Leaves (certified B.meaning self.old.room (standing_of self.old) draft)
+            self.old result self.new }
         ensures had_room { OnOk result (self.old.count < self.old.room) }
         ensures in_bytes { OnOk result (InBytes draft) }
     {
@@ -80,9 +85,11 @@ impl Held {
         self.fill(draft.row, row)
     }
 
-    /// Frees a row that is taken, if there is such a row and room for the record.
+    /// Frees a row, if it is at most 31 (else refusal 23), it is taken (24), and there is room for the record (13). A refusal
+    /// changes nothing.
     pub fn strike(&mut self, place: u64) -> Result<(), Refusal>
-        ensures leaves { Leaves (struck self.old.room (standing_of self.old) place) self.old result self.new }
+        ensures leaves { Leaves (struck self.old.room (standing_of self.old) place)
+            self.old result self.new }
         ensures had_room { OnOk result (self.old.count < self.old.room) }
         ensures within { OnOk result (place ≤ 31) }
     {

@@ -1,38 +1,47 @@
 -- Worked examples from the counter, as the rows of one table: what the definitions give, and what they should give.
-use Rattle.std.specs.Prelude.{◌≡◌, ℕ, List, [], ◌∷◌, replicate, ℤ, negsuc, Ok, Err, Result, slice_index, slice_set}
+use Rattle.std.specs.Prelude.{◌≡◌, ℕ, List, [], ◌∷◌, replicate, ℤ, negsuc, Ok, Err, Result, slice_set}
 use Rattle.std.specs.List.{AllByRecursion}
 use Rattle.refusals.specs.declared.reasons.Reason.TheVariants.{NoSuchNoteItem, SameItem, BadAmount}
 use Rattle.refusals.specs.declared.refusal.Refusal.{Refusal}
 use Rattle.refusals.specs.declared.step_place.StepPlace.{StepPlace}
 use Rattle.refusals.specs.declared.step_place.StepPlace.TheVariants.{Values}
-use Rattle.books.specs.Meaning.{Meaning}
+use Rattle.refusals.specs.Refused.{refused}
+use Rattle.books.specs.declared.draft.Draft.{Draft}
+use Rattle.books.specs.Meaning.{Meaning, codes_at}
 use Rattle.ledger.specs.Ledger.{ledger, balance}
 use Rattle.stock.specs.Stock.{stock, reels_code}
-use Rattle.refusals.specs.Refused.{refused}
 use Rattle.notes.specs.Notes.{noted}
 use Rattle.notes.specs.declared.numbers.Numbers.{Numbers}
 
--- one example each: a note that is made or refused; a step on two codes; the codes of a list after a step on it;
--- the balance of a code; the code of a pair of reels
+-- one example each
 pub data Row : Type 0 where
-  making : Meaning → ℕ → ℕ → ℕ → ℕ → Result Numbers Refusal → Row
-  stepping : Meaning → ℕ → ℕ → ℕ → ℕ → ℕ → ℕ → Result (ℕ × ℕ) StepPlace → Row
-  posting : Meaning → List ℕ → ℕ → ℕ → ℕ → ℕ → List ℕ → Row
+  -- a draft that is made a note or refused
+  making : Meaning → Draft → Result Numbers Refusal → Row
+  -- a step on two codes
+  stepping : Meaning → Draft → ℕ × ℕ → Result (ℕ × ℕ) StepPlace → Row
+  -- the codes of a list after a step on it
+  posting : Meaning → List ℕ → Draft → List ℕ → Row
+  -- the balance of a code
   balancing : ℕ → ℤ → Row
+  -- the code of a pair of reels
   coding : ℕ → ℕ → ℕ → Row
 
 -- the list with two codes replaced by what a step gave; as it was where the step refused
-abbrev pub stepped : List ℕ → ℕ → ℕ → Result (ℕ × ℕ) StepPlace → List ℕ
-stepped cs a b (Ok xy) = slice_set (slice_set cs a xy.0) b xy.1
-stepped cs a b (Err e) = cs
+abbrev pub stepped : List ℕ → Draft → Result (ℕ × ℕ) StepPlace → List ℕ
+stepped cs d (Ok after) = slice_set (slice_set cs d.a after.0) d.b after.1
+stepped cs d (Err e) = cs
 
 -- the definitions give the row's answer
 abbrev pub Gives : Row → Type 0
-Gives (making m p a b n answer) = noted m p a b n ≡ answer
-Gives (stepping m p a b x y n answer) = m.step p a b x y n ≡ answer
-Gives (posting m cs p a b n after) = stepped cs a b (m.step p a b (slice_index cs a) (slice_index cs b) n) ≡ after
+Gives (making m d answer) = noted m d ≡ answer
+Gives (stepping m d before answer) = m.step d before ≡ answer
+Gives (posting m cs d after) = stepped cs d (m.step d (codes_at cs d.a d.b)) ≡ after
 Gives (balancing code pence) = balance code ≡ pence
 Gives (coding h m code) = reels_code h m ≡ code
+
+-- a draft of a procedure, items a and b, and an amount
+abbrev pub typed : ℕ → ℕ → ℕ → ℕ → Draft
+typed p a b n = record { procedure = p; a = a; b = b; amount = n }
 
 -- a ledger note that was made
 abbrev pub charged : ℕ → Result Numbers Refusal
@@ -47,17 +56,17 @@ charged_ledger = slice_set (slice_set empty_ledger 8 4500) 0 1844674407370954711
 
 abbrev pub table : List Row
 table =
-    making ledger 1 8 0 1000000000 (charged 1000000000)
-    ∷ (making ledger 1 8 0 1000000001 (refused BadAmount 1000000001)
-    ∷ (making ledger 1 8 8 4500 (refused SameItem 8)
-    ∷ (making ledger 1 64 64 4500 (refused NoSuchNoteItem 64)
-    ∷ (stepping ledger 1 8 0 999999999999 0 1 (Ok (1000000000000, 18446744073709551615))
-    ∷ (stepping ledger 1 8 0 999999999999 0 2 (Err Values)
-    ∷ (posting ledger empty_ledger 1 8 0 4500 charged_ledger
+    making ledger (typed 1 8 0 1000000000) (charged 1000000000)
+    ∷ (making ledger (typed 1 8 0 1000000001) (refused BadAmount 1000000001)
+    ∷ (making ledger (typed 1 8 8 4500) (refused SameItem 8)
+    ∷ (making ledger (typed 1 64 64 4500) (refused NoSuchNoteItem 64)
+    ∷ (stepping ledger (typed 1 8 0 1) (999999999999, 0) (Ok (1000000000000, 18446744073709551615))
+    ∷ (stepping ledger (typed 1 8 0 2) (999999999999, 0) (Err Values)
+    ∷ (posting ledger empty_ledger (typed 1 8 0 4500) charged_ledger
     ∷ (balancing 18446744073709547116 (negsuc 4499)
     ∷ (coding 4 10 42949672964
-    ∷ (stepping stock 2 1 0 42949672964 42949672964 6 (Ok (42949672970, 42949672970))
-    ∷ (stepping stock 2 1 0 42949672964 42949672964 7 (Err Values)
+    ∷ (stepping stock (typed 2 1 0 6) (42949672964, 42949672964) (Ok (42949672970, 42949672970))
+    ∷ (stepping stock (typed 2 1 0 7) (42949672964, 42949672964) (Err Values)
     ∷ []))))))))))
 
 abbrev pub ExamplesStand : Type 0

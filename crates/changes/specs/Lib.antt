@@ -1,4 +1,4 @@
 pub mod Homes
-pub mod Plan
 pub mod Commit
 pub mod Rounds
+pub mod Laws

@@ -1,26 +1,6 @@
-ghost use Rattle.std.specs.Prelude.{◌≡◌, ℕ, ◌/◌, ◌%◌, ◌<◌, ◌≤◌, Decides, slice_index};
-ghost use Rattle.changes.specs.Commit.{commit_block_of, number_of, Rises, Lawful};
-ghost use Rattle.changes.specs.Plan.{plan_of};
+ghost use Rattle.std.specs.Prelude.{◌≡◌, ℕ, ◌<◌, ◌≤◌, Decides, slice_index};
+ghost use Rattle.changes.specs.Commit.{count_of, number_of, named_in, Rises, Lawful};
 ghost use Rattle.changes.specs.Rounds.{RoundTrip};
-
-use crate::change::Change;
-
-impl Change {
-    /// The commit block that names the change's blocks.
-    pub fn commit_block(&self) -> [u8; 64]
-        ensures value { result ≡ commit_block_of (plan_of self.now).count (plan_of self.now).numbers }
-    {
-        let mut block = [0; 64];
-        block[0] = self.homes.len() as u8;
-        for (place, home) in self.homes.iter().enumerate() {
-            let bytes = home.number.to_le_bytes();
-            // Tried: `copy_from_slice` of both. The proof did not close.
-            block[2 + 2 * place] = bytes[0];
-            block[3 + 2 * place] = bytes[1];
-        }
-        block
-    }
-}
 
 /// The number of the block that a commit block names at a place below 6; 0 from there on.
 pub fn named_block(commit: &[u8; 64], place: usize) -> u16
@@ -33,14 +13,14 @@ pub fn named_block(commit: &[u8; 64], place: usize) -> u16
     u16::from_le_bytes([commit[2 + 2 * place], commit[3 + 2 * place]])
 }
 
-/// Whether the first `count` numbers rise strictly, from 7 on and below the size.
-fn is_rising(commit: &[u8; 64], count: usize, size: u64) -> bool
-    requires few { count ≤ 6 }
-    ensures decides { Decides result (Rises size count (number_of commit.now)) }
+/// Whether the numbers of the blocks that a commit block names rise strictly, from 7 on and below the size.
+fn is_rising(commit: &[u8; 64], size: u64) -> bool
+    requires few { count_of commit.now ≤ 6 }
+    ensures decides { Decides result (Rises size (named_in commit.now)) }
 {
     // A loop, since each number is held against the one before it, and the first against 6.
     let mut last = 6;
-    for place in 0..count {
+    for place in 0..usize::from(commit[0]) {
         let number = u64::from(named_block(commit, place));
         if number <= last || number >= size {
             return false;
@@ -62,10 +42,7 @@ pub fn is_lawful(commit: &[u8; 64], size: u64) -> bool
     ensures decides { Decides result (Lawful size commit.now) }
 {
     let count = usize::from(commit[0]);
-    count <= 6
-        && commit[1] == 0
-        && is_rising(commit, count, size)
-        && is_blank(commit, 2 + 2 * count)
+    count <= 6 && commit[1] == 0 && is_rising(commit, size) && is_blank(commit, 2 + 2 * count)
 }
 
 /// A theorem: what is written is read back, and what is lawful is what its own reading writes.

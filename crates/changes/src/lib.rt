@@ -4,9 +4,6 @@
 
 mod change;
 mod commit;
-mod growing;
-mod reading;
 
-pub use change::{Change, Home};
+pub use change::{Change, DoesNotFit, Home};
 pub use commit::{commit_blocks_round_trip, is_lawful, named_block};
-pub use growing::DoesNotFit;

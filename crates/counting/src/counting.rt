@@ -1,10 +1,11 @@
 ghost use Rattle.std.specs.Prelude.{◌≡◌, true, IsOk};
 ghost use Rattle.drives.specs.Calls.{Writes, Flushes, Powers};
-ghost use Rattle.counting.specs.Counted.{one_more};
+ghost use Rattle.counting.specs.Counted.{Counted, none_yet, write_counted, flush_counted, power_counted};
 
 use drives::{Drive, DriveFault};
 use std::array;
 use std::cell::Cell;
+use std::marker::Model;
 
 /// Of so many blocks the reads are counted one by one.
 pub const BLOCKS: usize = 1024;
@@ -19,7 +20,7 @@ pub struct Counts {
 
 /// A drive that counts the calls which it hands on to the drive below.
 #[derive(Drop)]
-pub struct Counting<D> {
+pub struct Counting<D: Drive> {
     drive: D,
     // A read takes the drive by `&`, so its counts are cells. What a cell holds is beyond a contract: reads are tested, not proved.
     reads: [Cell<u64>; BLOCKS],
@@ -28,13 +29,24 @@ pub struct Counting<D> {
     powers: u64,
 }
 
-impl<D> Counting<D> {
+/// A counting drive is seen as what the drive below means, and its counts.
+impl<D: Drive> Model for Counting<D> {
+    ghost use Rattle.counting.specs.Counted.{Counted};
+    ghost use Rattle.counting.specs.declared.counting.Counts.{Counts};
+
+    ghost Value = { Counted };
+
+    ghost view = { λ c. record {
+      disk = D.disk c.drive;
+      counts = record { writes = c.writes; flushes = c.flushes; powers = c.powers };
+    } };
+}
+
+impl<D: Drive> Counting<D> {
     /// A drive that counts from zero.
     pub fn over(drive: D) -> Counting<D>
-        ensures holds { result.drive ≡ drive }
-        ensures writes { result.writes ≡ 0 }
-        ensures flushes { result.flushes ≡ 0 }
-        ensures powers { result.powers ≡ 0 }
+        ensures holds { result.disk ≡ D.disk drive }
+        ensures counts { result.counts ≡ none_yet }
     {
         Counting {
             drive,
@@ -47,9 +59,7 @@ impl<D> Counting<D> {
 
     /// The counts so far.
     pub fn counts(&self) -> Counts
-        ensures writes { result.writes ≡ self.now.writes }
-        ensures flushes { result.flushes ≡ self.now.flushes }
-        ensures powers { result.powers ≡ self.now.powers }
+        ensures value { result ≡ self.now.counts }
     {
         Counts {
             writes: self.writes,
@@ -70,9 +80,7 @@ impl<D> Counting<D> {
 
 /// The drive keeps the meaning of the drive below, and each write, flush and power call raises its count by one.
 impl<D: Drive> Drive for Counting<D> {
-    ghost disk = { λ c. D.disk c.drive };
-
-    ghost powers_up = { λ c. D.powers_up c.drive };
+    ghost disk = { λ c. c.disk };
 
     fn size(&self) -> u64 {
         self.drive.size()
@@ -90,31 +98,25 @@ impl<D: Drive> Drive for Counting<D> {
     }
 
     fn write(&mut self, block: u64, content: &[u8]) -> Result<(), DriveFault>
-        ensures writes { Writes (D.disk self.old.drive) block content.now result (D.disk self.new.drive) }
-        ensures counted { self.new.writes ≡ one_more self.old.writes }
-        ensures no_flush { self.new.flushes ≡ self.old.flushes }
-        ensures no_power { self.new.powers ≡ self.old.powers }
+        ensures writes { Writes self.old.disk block content.now result self.new.disk }
+        ensures counted { self.new.counts ≡ write_counted self.old.counts }
     {
         self.writes = self.writes.saturating_add(1);
         self.drive.write(block, content)
     }
 
     fn flush(&mut self) -> Result<(), DriveFault>
-        ensures flushes { Flushes (D.disk self.old.drive) result (D.disk self.new.drive) }
-        ensures counted { self.new.flushes ≡ one_more self.old.flushes }
-        ensures no_write { self.new.writes ≡ self.old.writes }
-        ensures no_power { self.new.powers ≡ self.old.powers }
+        ensures flushes { Flushes self.old.disk result self.new.disk }
+        ensures counted { self.new.counts ≡ flush_counted self.old.counts }
     {
         self.flushes = self.flushes.saturating_add(1);
         self.drive.flush()
     }
 
     fn power(&mut self) -> Result<(), DriveFault>
-        ensures powers { Powers (D.disk self.old.drive) result (D.disk self.new.drive) }
-        ensures done { D.powers_up self.old.drive ≡ true → IsOk result }
-        ensures counted { self.new.powers ≡ one_more self.old.powers }
-        ensures no_write { self.new.writes ≡ self.old.writes }
-        ensures no_flush { self.new.flushes ≡ self.old.flushes }
+        ensures powers { Powers self.old.disk result self.new.disk }
+        ensures done { self.old.disk.certain ≡ true → IsOk result }
+        ensures counted { self.new.counts ≡ power_counted self.old.counts }
     {
         self.powers = self.powers.saturating_add(1);
         self.drive.power()

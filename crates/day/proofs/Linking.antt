@@ -2,24 +2,26 @@
 use Rattle.std.proofs.Common.{◌≡◌, ℕ, Bool, false, List, [], ◌++◌, Result, IfOk, refl, sym, ap, subst, ◌∙◌}
 use Rattle.std.specs.declared.alloc.AllocError.{AllocError}
 use Rattle.books.specs.Meaning.{Meaning}
+use Rattle.drives.specs.Disk.{May}
 use Rattle.trial.specs.Bytes.{disk_of}
-use Rattle.trial.specs.declared.drive.TrialDrive.{TrialDrive}
-use Rattle.monitor.specs.declared.stage.Stage.{Stage}
+use Rattle.trial.specs.State.{State, disk}
+use Rattle.journals.specs.State as journal
 use Rattle.monitor.specs.declared.stage.Stage.TheVariants.{Shut}
 use Rattle.monitor.specs.Machine.{Machine, machine}
-use Rattle.histories.specs.Events.{Event, History, TakenOver, begun, again}
+use Rattle.histories.specs.Events.{Event, History, begun, again}
 use Rattle.desk.specs.declared.answer.Answer.{Answer}
 use Rattle.desk.specs.Serving.{Request, Served}
 use Rattle.day.specs.declared.keeping.Day.{Day}
 use Rattle.day.specs.Keeping.{shut_over, every_record, Kept, KeptAs}
 
 -- a fresh trial drive on the bytes of another takes it over
-pub takes_over : (on : Bool) (bytes : List ℕ) → TakenOver (disk_of on bytes) (disk_of false bytes)
-takes_over on bytes = record { same_size = refl; no_more = λ i x h. h }
+pub takes_over : (on : Bool) (bytes : List ℕ) → journal.TakenOver (disk_of on bytes) (disk_of false bytes)
+unfolding May
+takes_over on bytes = record { same_size = refl; no_more = λ i x l h. h }
 
 pub kept :
     (m : Meaning) (bytes left : List ℕ) (first calls : List Request) (firsts answers audit : List Answer) (s t u : Machine)
-    → Served m (shut_over bytes) first firsts s → TakenOver s.disk (disk_of false left)
+    → Served m (shut_over bytes) first firsts s → journal.TakenOver s.disk (disk_of false left)
     → Served m (shut_over left) calls answers t → Served m t every_record audit u
     → Kept m bytes first calls firsts answers audit u
 kept m bytes left first calls firsts answers audit s t u a o b c =
@@ -41,21 +43,19 @@ kept m bytes left first calls firsts answers audit s t u a o b c =
 
 -- a monitor that was made over a fresh trial drive
 pub opened_as :
-    (stage : Stage) (d o : TrialDrive) (bytes : List ℕ) → stage ≡ Shut → d ≡ o → o.on ≡ false → o.bytes.now ≡ bytes
-    → machine stage (disk_of d.on d.bytes.now) ≡ shut_over bytes
-opened_as stage d o bytes p q a b =
-    ap (λ z. machine z (disk_of d.on d.bytes.now)) p
-    ∙ ap (λ (z : TrialDrive). machine Shut (disk_of z.on z.bytes.now)) q
-    ∙ ap (λ z. machine Shut (disk_of z o.bytes.now)) a
-    ∙ ap (λ z. machine Shut (disk_of false z)) b
+    (s : Machine) (d : State) (bytes : List ℕ) → s ≡ machine Shut (disk d) → disk d ≡ disk_of false bytes → s ≡ shut_over bytes
+opened_as s d bytes p e = p ∙ ap (λ z. machine Shut z) e
 
 -- what was served from a machine by another name
 pub served_as : (m : Meaning) (s t u : Machine) (calls asked : List Request) (answers : List Answer) → s ≡ t → calls ≡ asked → Served m s calls answers u → Served m t asked answers u
 served_as m s t u calls asked answers e f h = subst (λ z. Served m t z answers u) f (subst (λ z. Served m z calls answers u) e h)
 
--- the bytes that were taken back
-pub taken : (on : Bool) (bytes left : List ℕ) → left ≡ bytes → TakenOver (disk_of on bytes) (disk_of false left)
-taken on bytes left e = subst (λ z. TakenOver (disk_of on bytes) (disk_of false z)) (sym e) (takes_over on bytes)
+-- the bytes that were taken back from a trial drive, whose monitor stood on it
+pub taken :
+    (d : State) (left : List ℕ) (e : journal.State) → disk d ≡ e → left ≡ d.bytes → journal.TakenOver e (disk_of false left)
+taken d left e p q =
+    subst (λ (z : journal.State). journal.TakenOver z (disk_of false left)) p
+    (subst (λ z. journal.TakenOver (disk d) (disk_of false z)) (sym q) (takes_over d.on d.bytes))
 
 -- a kept day by other names of its bytes and first requests
 pub kept_as :

@@ -1,17 +1,17 @@
 -- Looks at records, one after another: they change nothing, and show the records of the tally.
-use Rattle.std.proofs.Common.{◌≡◌, ℕ, ◌+◌, ◌<◌, ◌≤◌, zero, suc, Bool, true, false, ◌&&◌, nat_le, List, [], ◌∷◌, ◌++◌, map, take, Some, None, Ok, Option, refl, sym, ap, subst, ◌∙◌, arith}
+use Rattle.std.proofs.Common.{◌≡◌, ℕ, ◌+◌, ◌<◌, ◌≤◌, zero, suc, Bool, true, false, ◌&&◌, nat_le, List, [], ◌∷◌, ◌++◌, map, take, Some, None, Ok, Option, IfSome, refl, sym, ap, subst, ◌∙◌, arith}
 use Rattle.std.specs.List.{list_all, range_with_len}
 use Rattle.std.proofs.lemmas.List.{map-append}
 use Rattle.std.proofs.lemmas.List.Folds.{list_all-append}
 use Rattle.std.proofs.lemmas.Bool.{le-leb, lt-leb}
 use Rattle.books.specs.Meaning.{Meaning}
-use Rattle.drives.specs.Disk.{Disk}
+use Rattle.journals.specs.State.{State}
 use Rattle.records.specs.declared.record.Record.{Record}
 use Rattle.image.specs.Home.{count_on, record_on}
 use Rattle.monitor.specs.declared.stage.Stage.TheVariants.{Open}
 use Rattle.monitor.specs.Machine.{Machine, machine, home_of}
 use Rattle.monitor.specs.Asking.{record_seen}
-use Rattle.histories.specs.Law.{Known, Agrees}
+use Rattle.histories.specs.Law.{Agrees}
 use Rattle.histories.specs.Tally.{Tally, tally}
 use Rattle.desk.specs.declared.answer.Answer.{Answer}
 use Rattle.desk.specs.declared.answer.Answer.TheVariants as answer
@@ -71,7 +71,7 @@ shows_none : (a : Answer) (rest : List Answer) (xs : List Record) → record_of 
 shows_none a rest xs p q = rw (p, q) refl
 
 -- what an open monitor shows
-module _ (d : Disk) where
+module _ (d : State) where
   abbrev opened : Machine
   opened = machine Open d
 
@@ -112,7 +112,7 @@ module _ (d : Disk) where
       (in_order n (i + 1) j xs (omega arith) (omega arith) later)
 
   -- of a tally that it agrees with
-  told : (m : Meaning) (o : Option Tally) → Known o (λ t. Agrees m opened t.books) → Known o (λ t. records_seen (map (look_at opened) every_record) ≡ take 30 t.books.records)
+  told : (m : Meaning) (o : Option Tally) → IfSome o (λ t. Agrees m opened t.books) → IfSome o (λ t. records_seen (map (look_at opened) every_record) ≡ take 30 t.books.records)
   unfolding looks_from
   told m None k = tt
   told m (Some t) k = in_order 30 1 (count_on (home_of opened)) t.books.records (omega arith) (omega arith) k.records
@@ -126,5 +126,5 @@ tells_tally m bytes first calls firsts answers looks end k o =
     let now : end ≡ machine Open end.disk = ap (λ z. machine z end.disk) o in
     let same : k.closed ≡ machine Open end.disk = sym all.1 ∙ k.looks.after ∙ now in
     let shown : looks ≡ map (look_at (machine Open end.disk)) every_record = all.0 ∙ ap (λ (z : Machine). map (look_at z) every_record) same in
-    let agrees = subst (λ (z : Machine). Known (tally m k.happened) (λ t. Agrees m z t.books)) now (k.law.agrees o) in
+    let agrees = subst (λ (z : Machine). IfSome (tally m k.happened) (λ t. Agrees m z t.books)) now (k.law.agrees o) in
     subst (λ z. TellsTally m k.happened z) (sym shown) (told end.disk m (tally m k.happened) agrees)

@@ -6,10 +6,12 @@ use Rattle.books.specs.Meaning.{Meaning}
 use Rattle.trial.specs.Bytes.{disk_of}
 use Rattle.monitor.specs.declared.stage.Stage.TheVariants.{Shut}
 use Rattle.monitor.specs.Machine.{Machine, machine}
-use Rattle.histories.specs.Events.{Event, History, TakenOver}
+use Rattle.journals.specs.State.{TakenOver}
+use Rattle.histories.specs.Events.{Event, History}
 use Rattle.histories.specs.Law.{Law}
 use Rattle.desk.specs.declared.answer.Answer.{Answer}
-use Rattle.desk.specs.Serving.{Request, LooksAtRecord, Served}
+use Rattle.desk.specs.declared.call.Call.{Call}
+use Rattle.desk.specs.Serving.{Request, LooksAtRecord, Served, request_of}
 use Rattle.day.specs.declared.keeping.Day.{Day}
 
 -- a shut monitor over a trial drive on some bytes
@@ -38,3 +40,7 @@ abbrev pub KeptAs : Meaning → List ℕ → List Request → List Request → D
 KeptAs m bytes first calls day =
     (end : Machine) × (end.stage ≡ day.stage)
     × Kept m bytes first calls (vec_items day.firsts) (vec_items day.answers) (vec_items day.audit) end
+
+-- the same, by the calls that were made
+abbrev pub KeptWith : Meaning → List ℕ → List Call → List Call → Day → Type 0
+KeptWith m bytes first calls day = KeptAs m bytes (map request_of first) (map request_of calls) day

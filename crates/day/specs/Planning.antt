@@ -17,7 +17,7 @@ use Rattle.day.specs.declared.planning.Expected.{Expected}
 
 -- a note that was typed, made in the book that was chosen above it
 abbrev pub made : TypedNote → Result Numbers Refusal
-made t = noted (meaning_of t.book) t.draft.procedure t.draft.a t.draft.b t.draft.amount
+made t = noted (meaning_of t.book) t.draft
 
 -- what is said of a note that is made, and no more
 abbrev pub note_said : Result Numbers Refusal → Said
@@ -65,9 +65,12 @@ first_requests g = Formats g.house g.roll g.opening ∷ []
 abbrev pub requests_of : Gathered → List AskedAt → List Request
 requests_of g cs = Attaches ∷ flat_map (λ c. asks (planned g c.asked)) cs
 
--- the reply that a command's line is to have
+-- the reply that a line is to have, by its plan; and that a command's line is to have
+abbrev pub expected_by : ℕ → Result Request Said → Expected
+expected_by line p = record { source = Line line; said = said_at_once p }
+
 abbrev pub expected_of : Gathered → AskedAt → Expected
-expected_of g c = record { source = Line c.line; said = said_at_once (planned g c.asked) }
+expected_of g c = expected_by c.line (planned g c.asked)
 
 -- the replies that a script is to have: to the format, to the attach, and to each command
 abbrev pub all_expected : Gathered → List AskedAt → List Expected

@@ -1,5 +1,5 @@
 -- What running a script comes to: a day that was kept on a new drive, the replies by its answers, and its audit.
-use Rattle.std.specs.Prelude.{◌≡◌, ℕ, List, ◌∷◌, ◌++◌, map, replicate, take, Some, None, Ok, Option, vec_items, IsSomeAnd}
+use Rattle.std.specs.Prelude.{◌≡◌, ℕ, List, ◌∷◌, ◌++◌, map, replicate, take, Some, None, Ok, Option, vec_items, IfSome, IsSomeAnd}
 use Rattle.std.specs.List.{filter_map}
 use Rattle.books.specs.Meaning.{Meaning}
 use Rattle.records.specs.declared.record.Record.{Record}
@@ -10,7 +10,6 @@ use Rattle.monitor.specs.declared.stage.Stage.{Stage}
 use Rattle.monitor.specs.declared.stage.Stage.TheVariants as stage
 use Rattle.monitor.specs.Machine.{Machine}
 use Rattle.histories.specs.Events.{Event}
-use Rattle.histories.specs.Law.{Known}
 use Rattle.histories.specs.Tally.{tally}
 use Rattle.desk.specs.declared.answer.Answer.{Answer}
 use Rattle.desk.specs.declared.answer.Answer.TheVariants as answer
@@ -38,7 +37,7 @@ records_seen looks = filter_map record_seen looks
 
 -- where there is a tally of what the books should hold, the records that were seen are its records, up to the thirtieth
 abbrev pub TellsTally : Meaning → List Event → List Answer → Type 0
-TellsTally m happened looks = Known (tally m happened) (λ t. records_seen looks ≡ take 30 t.books.records)
+TellsTally m happened looks = IfSome (tally m happened) (λ t. records_seen looks ≡ take 30 t.books.records)
 
 -- what is shown of the audit at a stage: its records exactly if the monitor is open
 abbrev pub Shows : Stage → List Answer → Audit → Type 0

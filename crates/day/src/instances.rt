@@ -1,9 +1,8 @@
-ghost use Rattle.std.specs.Prelude.{◌≡◌, map, IfOk};
+ghost use Rattle.std.specs.Prelude.{◌≡◌, IfOk};
 ghost use Rattle.script.specs.Grammar.{meaning_of};
 ghost use Rattle.ledger.specs.Ledger.{ledger};
 ghost use Rattle.stock.specs.Stock.{stock};
-ghost use Rattle.desk.specs.Serving.{request_of};
-ghost use Rattle.day.specs.Keeping.{KeptAs};
+ghost use Rattle.day.specs.Keeping.{KeptWith};
 
 use crate::keeping::{Day, keep_day};
 use desk::Call;
@@ -20,7 +19,8 @@ pub fn keep_ledger_day<'a>(
     first: Vec<Call<'a>>,
     calls: Vec<Call<'a>>,
 ) -> Result<Day, AllocError>
-    ensures keeps { IfOk result (KeptAs ledger bytes.old (map request_of first.entry.items) (map request_of calls.entry.items)) }
+    ensures keeps { IfOk result
+        (KeptWith ledger bytes.old first.entry.items calls.entry.items) }
 {
     keep_day(heap, Ledger, bytes, cuts, first, calls)
 }
@@ -33,7 +33,8 @@ pub fn keep_stock_day<'a>(
     first: Vec<Call<'a>>,
     calls: Vec<Call<'a>>,
 ) -> Result<Day, AllocError>
-    ensures keeps { IfOk result (KeptAs stock bytes.old (map request_of first.entry.items) (map request_of calls.entry.items)) }
+    ensures keeps { IfOk result
+        (KeptWith stock bytes.old first.entry.items calls.entry.items) }
 {
     keep_day(heap, Stock, bytes, cuts, first, calls)
 }
@@ -47,7 +48,8 @@ pub(crate) fn keep_day_of<'a>(
     first: Vec<Call<'a>>,
     calls: Vec<Call<'a>>,
 ) -> Result<Day, AllocError>
-    ensures keeps { IfOk result (KeptAs (meaning_of book) bytes.old (map request_of first.entry.items) (map request_of calls.entry.items)) }
+    ensures keeps { IfOk result
+        (KeptWith (meaning_of book) bytes.old first.entry.items calls.entry.items) }
 {
     match book {
         BookName::Ledger => keep_ledger_day(heap, bytes, cuts, first, calls),

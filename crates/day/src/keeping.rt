@@ -1,8 +1,7 @@
 ghost use Rattle.std.specs.Prelude.{◌≡◌, map, IfOk};
 ghost use Rattle.std.specs.List.{range_with_len};
 ghost use Rattle.desk.specs.declared.call.Call.TheVariants.{Record as CallRecord};
-ghost use Rattle.desk.specs.Serving.{request_of};
-ghost use Rattle.day.specs.Keeping.{KeptAs};
+ghost use Rattle.day.specs.Keeping.{KeptWith};
 
 use books::Book;
 use desk::{Answer, Call, serve};
@@ -36,7 +35,8 @@ pub fn keep_day<'a, B: Book + Drop>(
     first: Vec<Call<'a>>,
     calls: Vec<Call<'a>>,
 ) -> Result<Day, AllocError>
-    ensures keeps { IfOk result (KeptAs B.meaning bytes.old (map request_of first.entry.items) (map request_of calls.entry.items)) }
+    ensures keeps { IfOk result
+        (KeptWith B.meaning bytes.old first.entry.items calls.entry.items) }
 {
     let mut monitor = Monitor::over(TrialDrive::over(bytes, &[]), book);
     let firsts = serve(&mut monitor, heap, first)?;

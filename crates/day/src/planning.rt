@@ -1,10 +1,9 @@
 ghost use Rattle.std.specs.Prelude.{◌≡◌, ◌∷◌, ◌++◌, [], None, map, IfOk, OnOk};
-ghost use Rattle.notes.specs.Held.{made_of};
 ghost use Rattle.script.specs.Said.{asked_by};
 ghost use Rattle.script.specs.Reading.{gathered_by, asked_at};
 ghost use Rattle.desk.specs.Serving.{request_of};
 ghost use Rattle.day.specs.declared.reply.Source.TheVariants.{Line};
-ghost use Rattle.day.specs.Planning.{made, note_said, entering_of, planned as plan_by, plan_of, asks, said_at_once, first_requests, requests_of, all_expected};
+ghost use Rattle.day.specs.Planning.{made, note_said, entering_of, planned as plan_by, plan_of, asks, expected_by, first_requests, requests_of, all_expected};
 ghost use Rattle.day.specs.Replies.{replies_of};
 
 use crate::reply::{Reply, Said, Source};
@@ -18,7 +17,7 @@ use stock::Stock;
 
 /// A note that was typed, made in the book that was chosen above it.
 fn make_typed(typed: TypedNote) -> Result<Note, Refusal>
-    ensures value { made_of result ≡ made typed }
+    ensures value { result ≡ made typed }
 {
     // Each book is a type of its own, with constants and an item type, so no enum and no `dyn` stands for both: each arm names one.
     match typed.book {
@@ -105,8 +104,10 @@ pub struct Plan<'a> {
 impl<'a> Plan<'a> {
     /// Adds what a command comes to.
     fn add(&mut self, line: u64, planned: Result<Call<'a>, Said>) -> Result<(), AllocError>
-        ensures calls { OnOk result (map request_of self.new.calls.items ≡ map request_of self.old.calls.items ++ asks (plan_of planned.entry)) }
-        ensures expected { OnOk result (self.new.expected.items ≡ self.old.expected.items ++ record { source = Line line; said = said_at_once (plan_of planned.entry) } ∷ []) }
+        ensures calls { OnOk result (map request_of self.new.calls.items
+            ≡ map request_of self.old.calls.items ++ asks (plan_of planned.entry)) }
+        ensures expected { OnOk result (self.new.expected.items
+            ≡ self.old.expected.items ++ expected_by line (plan_of planned.entry) ∷ []) }
     {
         let source = Source::Line(line);
         match planned {
@@ -125,7 +126,8 @@ impl<'a> Plan<'a> {
 
 /// The first call on a new rig: it is formatted with what the script sets up.
 pub fn first_calls<'a>(heap: Global, setup: &'a Setup) -> Result<Vec<Call<'a>>, AllocError>
-    ensures asks { IfOk result (λ v. map request_of v.items ≡ first_requests (gathered_by setup.now)) }
+    ensures asks { IfOk result (λ v.
+        map request_of v.items ≡ first_requests (gathered_by setup.now)) }
 {
     let format = Call::Format {
         house: setup.house,
@@ -148,8 +150,10 @@ pub fn plan_day<'a>(
     setup: &'a Setup,
     commands: &[Numbered<'a>],
 ) -> Result<Plan<'a>, AllocError>
-    ensures calls { IfOk result (λ p. map request_of p.calls.items ≡ requests_of (gathered_by setup.now) (map asked_at commands.now)) }
-    ensures expected { IfOk result (λ p. p.expected.items ≡ all_expected (gathered_by setup.now) (map asked_at commands.now)) }
+    ensures calls { IfOk result (λ p. map request_of p.calls.items
+        ≡ requests_of (gathered_by setup.now) (map asked_at commands.now)) }
+    ensures expected { IfOk result (λ p. p.expected.items
+        ≡ all_expected (gathered_by setup.now) (map asked_at commands.now)) }
 {
     let mut plan = Plan {
         calls: vec![in heap; Call::Attach]?,

@@ -33,7 +33,8 @@ fn keep_on_new_drive<'a>(
     setup: &'a Setup,
     calls: Vec<Call<'a>>,
 ) -> Result<Day, AllocError>
-    ensures keeps { IfOk result (KeptAs (meaning_of book) new_drive (first_requests (gathered_by setup.now)) (map request_of calls.entry.items)) }
+    ensures keeps { IfOk result (KeptAs (meaning_of book) new_drive
+        (first_requests (gathered_by setup.now)) (map request_of calls.entry.items)) }
 {
     let mut bytes = vec![in heap; 0; DRIVE]?;
     let first = first_calls(heap, setup)?;
@@ -43,7 +44,8 @@ fn keep_on_new_drive<'a>(
 
 /// What a day came to, by its answers.
 fn outcome_of(heap: Global, expected: &[Expected], day: Day) -> Result<Outcome, AllocError>
-    ensures replies { IfOk result (λ o. o.replies.items ≡ replies_of expected.now (day.firsts.items ++ day.answers.items)) }
+    ensures replies { IfOk result (λ o.
+        o.replies.items ≡ replies_of expected.now (day.firsts.items ++ day.answers.items)) }
     ensures audit { IfOk result (λ o. IsSomeAnd o.audit (Shows day.stage day.audit.items)) }
 {
     let mut answers = day.firsts;
@@ -56,7 +58,8 @@ fn outcome_of(heap: Global, expected: &[Expected], day: Day) -> Result<Outcome, 
 
 /// Runs a script that chose a book, on a new drive of that book. It fails only for want of memory.
 fn run_rig(heap: Global, book: BookName, script: &Script) -> Result<Outcome, AllocError>
-    ensures runs { IfOk result (λ o. RunsOn book (gathered_by script.now.setup) (map asked_at script.now.commands.items) o.replies.items o.audit) }
+    ensures runs { IfOk result (λ o. RunsOn book (gathered_by script.now.setup)
+        (map asked_at script.now.commands.items) o.replies.items o.audit) }
 {
     let plan = plan_day(heap, &script.setup, script.commands.as_slice())?;
     let day = keep_on_new_drive(heap, book, &script.setup, plan.calls)?;
@@ -66,7 +69,8 @@ fn run_rig(heap: Global, book: BookName, script: &Script) -> Result<Outcome, All
 /// Runs a script: answers each of its commands, and last the bad line that ended the reading, if one did. A script that
 /// chooses no book asks for nothing. It fails only for want of memory.
 pub fn run_script(heap: Global, text: &[u8]) -> Result<Outcome, AllocError>
-    ensures runs { IfOk result (λ o. Runs (script_reading text.now).setup.book (script_reading text.now) o) }
+    ensures runs { IfOk result (λ o.
+        Runs (script_reading text.now).setup.book (script_reading text.now) o) }
 {
     let script = read_script(heap, text)?;
     let mut outcome = match script.setup.book {

@@ -1,5 +1,5 @@
 -- Calls at the desk: each moves the monitor, the tray and what happened as its definition says.
-use Rattle.std.proofs.Common.{◌≡◌, ℕ, List, ◌∷◌, ◌++◌, [], Some, None, Result, refl, sym, ap, subst}
+use Rattle.std.proofs.Common.{◌≡◌, ℕ, List, ◌∷◌, ◌++◌, [], Some, None, Ok, Err, Result, refl, sym, ap, subst}
 use Rattle.refusals.specs.declared.refusal.Refusal.{Refusal}
 use Rattle.books.specs.Meaning.{Meaning}
 use Rattle.notes.specs.declared.numbers.Numbers.{Numbers}
@@ -10,11 +10,21 @@ use Rattle.monitor.specs.Calls.{Countersigns as MonitorCountersigns, Certifies a
 use Rattle.monitor.specs.Starting.{Formats as MonitorFormats, Attaches as MonitorAttaches}
 use Rattle.monitor.specs.Asking.{entered, item_seen, record_seen}
 use Rattle.monitor.specs.Machine.{Machine}
+use Rattle.monitor.specs.Slips.{Paper, handed_out}
 use Rattle.desk.specs.declared.answer.Answer.{Answer}
 use Rattle.desk.specs.declared.answer.Answer.TheVariants as answer
 use Rattle.histories.specs.Events.{Event, Formatted, Attached, NoteEntered, Countersigned, Certified, Struck, ItemSeen, RecordSeen, Happens}
 use Rattle.desk.specs.declared.tray.Waiting.{Waiting}
 use Rattle.desk.specs.Serving.{ticket_of, tickets_of, Ticket, Moves, Serves, Answered, Request, Formats, Attaches, Certifies, Strikes, LooksAtItem, LooksAtRecord, Enters, Countersigns, Withdraws, CountersignsSlip, WithdrawsSlip, with_slip, waiting, without}
+
+-- the numbers of a slip that was handed out, or the refusal
+abbrev pub told : Result Paper Refusal → Result Entered Refusal
+told (Ok slip) = Ok slip.entered
+told (Err e) = Err e
+
+pub told_back : (r : Result Entered Refusal) → told (handed_out r) ≡ r
+told_back (Ok numbers) = refl
+told_back (Err e) = refl
 
 -- a call of the monitor that happened
 pub moved : (m : Meaning) (s t : Machine) (e : Event) (tray now : List Ticket) (es : List Event) → Happens m s e t

@@ -5,7 +5,7 @@ use Rattle.books.specs.Meaning.{Meaning, StepTests, StepGivesCodes}
 use Rattle.monitor.specs.declared.entered.Entered.{Entered}
 use Rattle.monitor.specs.Machine.{Machine}
 use Rattle.histories.specs.Events.{Event, History, then as and}
-use Rattle.histories.proofs.Histories.{law_holds}
+use Rattle.histories.specs.Law.{LawHolds}
 use Rattle.desk.specs.declared.answer.Answer.{Answer}
 use Rattle.desk.specs.declared.call.Call.{Call}
 use Rattle.desk.specs.Serving.{Request, Formats, Attaches, Enters, Countersigns, Withdraws, Certifies, Strikes, LooksAtItem, LooksAtRecord, request_of, Ticket, Desk, opened_with, Moves, Serves, CountersignsSlip, WithdrawsSlip, Answered, Session, begun, then, Served}
@@ -66,11 +66,11 @@ extends m w cs rs v (then {cs = ds} {rs = ss} {u = u} c a k l) es h = serves_on 
 
 -- and the law holds of it
 pub served :
-    (m : Meaning) → StepTests m → StepGivesCodes m → (s t : Machine) (ys cs rest : List Call) (rs : List Answer) (ts : List Ticket)
+    (law : LawHolds) (m : Meaning) → StepTests m → StepGivesCodes m → (s t : Machine) (ys cs rest : List Call) (rs : List Answer) (ts : List Ticket)
     → ys ++ rest ≡ cs → rest ≡ []
     → (es : List Event) × Session m (opened_with s) (map request_of ys) rs (record { machine = t; tray = ts; happened = es })
     → Served m s (map request_of cs) rs t
-served m tests gives s t ys cs rest rs ts p q k =
+served law m tests gives s t ys cs rest rs ts p q k =
     let all : ys ≡ cs = sym (append-nil ys) ∙ ap (λ z. ys ++ z) (sym q) ∙ p in
     let session = subst (λ (z : List Call). Session m (opened_with s) (map request_of z) rs (record { machine = t; tray = ts; happened = k.0 })) all k.1 in
     record {
@@ -78,7 +78,7 @@ served m tests gives s t ys cs rest rs ts p q k =
       session = session;
       after = refl;
       history = extends m (opened_with s) (map request_of cs) rs _ session;
-      law = λ es h. law_holds m tests gives (k.0 ++ es) t (extends m (opened_with s) (map request_of cs) rs _ session es h);
+      law = λ es h. law m tests gives (k.0 ++ es) t (extends m (opened_with s) (map request_of cs) rs _ session es h);
     }
 
 -- where all were made, none is left

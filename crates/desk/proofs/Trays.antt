@@ -4,7 +4,7 @@ use Rattle.std.specs.Str.{bytes_eq}
 use Rattle.std.specs.List.{position_or_len, remove}
 use Rattle.std.proofs.lemmas.Bool.{cases_Bool, false≢true, ltb-true, ltb-false}
 use Rattle.std.specs.Option.{is_some, unwrap_or}
-use Rattle.monitor.specs.Held.{entered_of}
+use Rattle.std.specs.Prelude.{if◌then◌else◌}
 use Rattle.desk.specs.declared.tray.Waiting.{Waiting}
 use Rattle.desk.specs.Serving.{Ticket, ticket_of, tickets_of, waiting, without}
 
@@ -36,11 +36,11 @@ module _ (name : List ℕ) where
   at_later w ws e = ap (λ b. cond (not b) (1 + position_or_len bears ws) 0) e
 
   -- the first that waits under it, and the rest of the tray, by the test at the front
-  front_waits : (w : Waiting) (ws : List Waiting) (b : Bool) → bears w ≡ b → waiting (tickets_of (w ∷ ws)) name ≡ cond b (Some (entered_of w.slip)) (waiting (tickets_of ws) name)
-  front_waits w ws b e = ap (λ z. cond z (Some (entered_of w.slip)) (waiting (tickets_of ws) name)) e
+  front_waits : (w : Waiting) (ws : List Waiting) (b : Bool) → bears w ≡ b → waiting (tickets_of (w ∷ ws)) name ≡ (if b then Some w.slip.entered else waiting (tickets_of ws) name)
+  front_waits w ws b e = ap (λ z. if z then Some w.slip.entered else waiting (tickets_of ws) name) e
 
-  front_goes : (w : Waiting) (ws : List Waiting) (b : Bool) → bears w ≡ b → without (tickets_of (w ∷ ws)) name ≡ cond b (tickets_of ws) (ticket_of w ∷ without (tickets_of ws) name)
-  front_goes w ws b e = ap (λ z. cond z (tickets_of ws) (ticket_of w ∷ without (tickets_of ws) name)) e
+  front_goes : (w : Waiting) (ws : List Waiting) (b : Bool) → bears w ≡ b → without (tickets_of (w ∷ ws)) name ≡ (if b then tickets_of ws else ticket_of w ∷ without (tickets_of ws) name)
+  front_goes w ws b e = ap (λ z. if z then tickets_of ws else ticket_of w ∷ without (tickets_of ws) name) e
 
   -- none waits under it
   pub none_waits : (ws : List Waiting) → length ws ≤ position_or_len bears ws → waiting (tickets_of ws) name ≡ None
@@ -63,14 +63,14 @@ module _ (name : List ℕ) where
   abbrev pub place : List Waiting → ℕ
   place ws = position_or_len bears ws
 
-  pub first_waits : (ws : List Waiting) (d : Waiting) → place ws < length ws → waiting (tickets_of ws) name ≡ Some (entered_of (get_or ws (place ws) d).slip)
+  pub first_waits : (ws : List Waiting) (d : Waiting) → place ws < length ws → waiting (tickets_of ws) name ≡ Some (get_or ws (place ws) d).slip.entered
   first_waits [] d l = absurd (omega arith)
   first_waits (w ∷ ws) d l =
       elim (cases_Bool (bears w)) [
-        | inl e ↦ front_waits w ws true e ∙ ap (λ z. Some (entered_of (get_or (w ∷ ws) z d).slip)) (sym (at_first w ws e))
+        | inl e ↦ front_waits w ws true e ∙ ap (λ z. Some (get_or (w ∷ ws) z d).slip.entered) (sym (at_first w ws e))
         | inr e ↦ (
             let next : suc (place ws) ≡ place (w ∷ ws) = omega (arith, at_later w ws e) in
-            front_waits w ws false e ∙ first_waits ws d (omega (arith, l, next)) ∙ ap (λ z. Some (entered_of (get_or (w ∷ ws) z d).slip)) next)
+            front_waits w ws false e ∙ first_waits ws d (omega (arith, l, next)) ∙ ap (λ z. Some (get_or (w ∷ ws) z d).slip.entered) next)
       ]
 
   -- and goes
@@ -89,6 +89,6 @@ pub stays : (ts : List Ticket) (name : List ℕ) → None ≡ waiting ts name �
 stays [] name e = refl
 stays (t ∷ ts) name e =
     elim (cases_Bool (bytes_eq t.name name)) [
-      | inl y ↦ absurd (false≢true (ap is_some (e ∙ ap (λ b. cond b (Some t.slip) (waiting ts name)) y)))
-      | inr n ↦ ap (λ b. cond b ts (t ∷ without ts name)) n ∙ ap (λ z. t ∷ z) (stays ts name (e ∙ ap (λ b. cond b (Some t.slip) (waiting ts name)) n))
+      | inl y ↦ absurd (false≢true (ap is_some (e ∙ ap (λ b. if b then Some t.slip else waiting ts name) y)))
+      | inr n ↦ ap (λ b. if b then ts else t ∷ without ts name) n ∙ ap (λ z. t ∷ z) (stays ts name (e ∙ ap (λ b. if b then Some t.slip else waiting ts name) n))
     ]

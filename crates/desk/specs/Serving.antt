@@ -1,14 +1,12 @@
 -- Calls made one after another at the desk, where slips wait between enter and countersign or withdraw.
-use Rattle.std.specs.Prelude.{◌≡◌, ℕ, cond, List, [], ◌∷◌, ◌++◌, map, Some, None, Ok, Err, Option, Result}
+use Rattle.std.specs.Prelude.{◌≡◌, ℕ, List, [], ◌∷◌, ◌++◌, map, Some, None, Ok, Err, Option, Result, if◌then◌else◌}
 use Rattle.std.specs.Str.{bytes_eq}
 use Rattle.refusals.specs.declared.refusal.Refusal.{Refusal}
 use Rattle.books.specs.Meaning.{Meaning}
 use Rattle.notes.specs.declared.numbers.Numbers.{Numbers}
-use Rattle.notes.specs.Held.{numbers_of}
 use Rattle.records.specs.declared.record.Record.{Record}
 use Rattle.carrying.specs.declared.row_draft.RowDraft.{RowDraft}
 use Rattle.monitor.specs.declared.entered.Entered.{Entered}
-use Rattle.monitor.specs.Held.{entered_of}
 use Rattle.monitor.specs.Machine.{Machine}
 use Rattle.desk.specs.declared.answer.Answer.{Answer}
 use Rattle.desk.specs.declared.answer.Answer.TheVariants as answer
@@ -33,7 +31,7 @@ pub data Request : Type 0 where
 abbrev pub request_of : Call → Request
 request_of (call.Format house roll opening) = Formats house roll.now opening.now
 request_of call.Attach = Attaches
-request_of (call.Enter name user word note) = Enters name.now user word.now (numbers_of note)
+request_of (call.Enter name user word note) = Enters name.now user word.now note
 request_of (call.Countersign name user word) = Countersigns name.now user word.now
 request_of (call.Withdraw name) = Withdraws name.now
 request_of (call.Certify word draft) = Certifies word.now draft
@@ -47,7 +45,7 @@ pub record Ticket : Type 0 where
   pub slip : Entered
 
 abbrev pub ticket_of : Waiting → Ticket
-ticket_of w = record { name = w.name.now; slip = entered_of w.slip }
+ticket_of w = record { name = w.name.now; slip = w.slip.entered }
 
 abbrev pub tickets_of : List Waiting → List Ticket
 tickets_of ws = map ticket_of ws
@@ -55,12 +53,12 @@ tickets_of ws = map ticket_of ws
 -- the first slip that waits under a name, if one does
 abbrev pub waiting : List Ticket → List ℕ → Option Entered
 waiting [] name = None
-waiting (t ∷ ts) name = cond (bytes_eq t.name name) (Some t.slip) (waiting ts name)
+waiting (t ∷ ts) name = if bytes_eq t.name name then Some t.slip else waiting ts name
 
 -- the tray without it
 abbrev pub without : List Ticket → List ℕ → List Ticket
 without [] name = []
-without (t ∷ ts) name = cond (bytes_eq t.name name) ts (t ∷ without ts name)
+without (t ∷ ts) name = if bytes_eq t.name name then ts else t ∷ without ts name
 
 -- the tray after a note was entered: its slip lies behind the others; refused, there is none
 abbrev pub with_slip : List Ticket → List ℕ → Result Entered Refusal → List Ticket
@@ -116,6 +114,10 @@ abbrev pub Answered : Meaning → Machine → List Ticket → Request → Answer
 Answered m s tray c a t tray' =
     (es : List Event) →
     (fs : List Event) × Serves m (record { machine = s; tray = tray; happened = es }) c a (record { machine = t; tray = tray'; happened = fs })
+
+-- the same, by the slips that wait
+abbrev pub Answers : Meaning → Machine → List Waiting → Request → Answer → Machine → List Waiting → Type 0
+Answers m s ws c a t ws' = Answered m s (tickets_of ws) c a t (tickets_of ws')
 
 -- calls one after another, each with its answer
 pub data Session (m : Meaning) (w : Desk) : List Request → List Answer → Desk → Type 0 where

@@ -1,8 +1,7 @@
 ghost use Rattle.std.specs.Prelude.{◌≡◌, ◌<◌, ◌≤◌, ◌+◌, vec_len, vec_capacity};
 ghost use Rattle.books.specs.Meaning.{Meaning};
-ghost use Rattle.monitor.specs.Machine.{Machine, machine};
-ghost use Rattle.notes.specs.Held.{numbers_of};
-ghost use Rattle.desk.specs.Serving.{request_of, tickets_of, Answered, Enters, Countersigns, Withdraws};
+ghost use Rattle.monitor.specs.Machine.{Machine};
+ghost use Rattle.desk.specs.Serving.{request_of, Answers, Enters, Countersigns, Withdraws};
 
 use crate::answer::Answer;
 use crate::call::Call;
@@ -22,7 +21,8 @@ fn enter<'a, D: Drive, B: Book>(
     note: Note,
 ) -> Answer
     requires room { vec_len tray.old < vec_capacity tray.old }
-    ensures answered { Answered B.meaning (machine monitor.now.stage (D.disk monitor.now.journal.drive)) (tickets_of tray.old.items) (Enters name.now user word.now (numbers_of note)) result (machine monitor.now.stage (D.disk monitor.now.journal.drive)) (tickets_of tray.new.items) }
+    ensures answered { Answers B.meaning monitor.now tray.old.items
+        (Enters name.now user word.now note) result monitor.now tray.new.items }
     ensures longer { vec_len tray.new ≤ vec_len tray.old + 1 }
     ensures capacity { vec_capacity tray.new ≡ vec_capacity tray.old }
 {
@@ -44,7 +44,8 @@ fn countersign<'a, D: Drive, B: Book>(
     user: u64,
     word: &[u8],
 ) -> Answer
-    ensures answered { Answered B.meaning (machine monitor.old.stage (D.disk monitor.old.journal.drive)) (tickets_of tray.old.items) (Countersigns name.now user word.now) result (machine monitor.new.stage (D.disk monitor.new.journal.drive)) (tickets_of tray.new.items) }
+    ensures answered { Answers B.meaning monitor.old tray.old.items
+        (Countersigns name.now user word.now) result monitor.new tray.new.items }
     ensures no_longer { vec_len tray.new ≤ vec_len tray.old }
     ensures capacity { vec_capacity tray.new ≡ vec_capacity tray.old }
 {
@@ -56,7 +57,8 @@ fn countersign<'a, D: Drive, B: Book>(
 
 /// Withdraws a slip that waits.
 fn withdraw<'a>(tray: &mut Vec<Waiting<'a>>, name: &[u8]) -> Answer
-    ensures answered { (m : Meaning) (s : Machine) → Answered m s (tickets_of tray.old.items) (Withdraws name.now) result s (tickets_of tray.new.items) }
+    ensures answered { (m : Meaning) (s : Machine) →
+        Answers m s tray.old.items (Withdraws name.now) result s tray.new.items }
     ensures no_longer { vec_len tray.new ≤ vec_len tray.old }
     ensures capacity { vec_capacity tray.new ≡ vec_capacity tray.old }
 {
@@ -73,7 +75,8 @@ pub(crate) fn answer<'a, D: Drive, B: Book>(
     call: Call<'a>,
 ) -> Answer
     requires room { vec_len tray.old < vec_capacity tray.old }
-    ensures answered { Answered B.meaning (machine monitor.old.stage (D.disk monitor.old.journal.drive)) (tickets_of tray.old.items) (request_of call.entry) result (machine monitor.new.stage (D.disk monitor.new.journal.drive)) (tickets_of tray.new.items) }
+    ensures answered { Answers B.meaning monitor.old tray.old.items (request_of call.entry)
+        result monitor.new tray.new.items }
     ensures longer { vec_len tray.new ≤ vec_len tray.old + 1 }
     ensures capacity { vec_capacity tray.new ≡ vec_capacity tray.old }
 {

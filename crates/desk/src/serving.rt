@@ -1,5 +1,4 @@
 ghost use Rattle.std.specs.Prelude.{◌≡◌, map, IfOk, OnErr};
-ghost use Rattle.monitor.specs.Machine.{machine};
 ghost use Rattle.desk.specs.Serving.{request_of, Served};
 
 use crate::answer::Answer;
@@ -8,6 +7,7 @@ use crate::call::Call;
 use crate::tray::{Waiting, clear};
 use books::Book;
 use drives::Drive;
+use histories::every_history_is_lawful;
 use monitor::Monitor;
 use std::alloc::{AllocError, Global};
 
@@ -18,9 +18,12 @@ pub fn serve<'a, D: Drive, B: Book>(
     heap: Global,
     calls: Vec<Call<'a>>,
 ) -> Result<Vec<Answer>, AllocError>
-    ensures served { IfOk result (λ answers. Served B.meaning (machine monitor.old.stage (D.disk monitor.old.journal.drive)) (map request_of calls.entry.items) answers.items (machine monitor.new.stage (D.disk monitor.new.journal.drive))) }
-    ensures untouched { OnErr result (machine monitor.new.stage (D.disk monitor.new.journal.drive) ≡ machine monitor.old.stage (D.disk monitor.old.journal.drive)) }
+    ensures served { IfOk result (λ answers. Served B.meaning monitor.old
+        (map request_of calls.entry.items) answers.items monitor.new) }
+    ensures untouched { OnErr result (monitor.new ≡ monitor.old) }
 {
+    // The law holds of every history: what is promised of this one rests on it.
+    every_history_is_lawful();
     let mut answers = Vec::with_capacity(heap, calls.len())?;
     let mut tray: Vec<Waiting<'a>> = Vec::with_capacity(heap, calls.len())?;
     for call in calls {

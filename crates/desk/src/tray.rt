@@ -1,6 +1,5 @@
 ghost use Rattle.std.specs.Prelude.{◌≡◌, ◌≤◌, vec_len, vec_capacity};
 ghost use Rattle.std.specs.Option.{option_map};
-ghost use Rattle.monitor.specs.Held.{entered_of};
 ghost use Rattle.desk.specs.Serving.{tickets_of, waiting, without};
 
 use monitor::Slip;
@@ -13,7 +12,8 @@ pub struct Waiting<'a> {
 
 /// Takes the first slip that waits under a name off the tray, if one does.
 pub(crate) fn take_slip<'a>(tray: &mut Vec<Waiting<'a>>, name: &[u8]) -> Option<Slip>
-    ensures slip { option_map entered_of result ≡ waiting (tickets_of tray.old.items) name.now }
+    ensures slip { option_map (λ slip. slip.entered) result ≡
+        waiting (tickets_of tray.old.items) name.now }
     ensures rest { tickets_of tray.new.items ≡ without (tickets_of tray.old.items) name.now }
     ensures no_longer { vec_len tray.new ≤ vec_len tray.old }
     ensures capacity { vec_capacity tray.new ≡ vec_capacity tray.old }

@@ -2,7 +2,7 @@
 // have reached the blocks when it does. Everything above is proved for every drive that keeps this meaning.
 #![tactic(auto)]
 
-ghost use Rattle.std.specs.Prelude.{◌≡◌, Bool, true, IsOk};
+ghost use Rattle.std.specs.Prelude.{◌≡◌, true, IsOk};
 ghost use Rattle.drives.specs.Disk.{Disk, size as type_size};
 ghost use Rattle.drives.specs.Calls.{Reads, Writes, Flushes, Powers};
 
@@ -24,9 +24,6 @@ pub enum DriveFault {
 pub trait Drive {
     /// What the drive means.
     ghost disk: { Self → Disk };
-
-    /// Whether it is certain that a power call, if it is made now, is done. A drive that cannot know says no.
-    ghost powers_up: { Self → Bool };
 
     /// How many blocks the drive has. This never changes.
     fn size(&self) -> u64
@@ -51,5 +48,5 @@ pub trait Drive {
     /// Turns power off and on again, or loses it once more.
     fn power(&mut self) -> Result<(), DriveFault>
         ensures powers { Powers (disk self.old) result (disk self.new) }
-        ensures done { powers_up self.old ≡ true → IsOk result };
+        ensures done { (disk self.old).certain ≡ true → IsOk result };
 }

@@ -3,7 +3,8 @@
 #![tactic(auto)]
 
 ghost use Rattle.std.specs.Prelude.{◌≡◌, ◌+◌, ◌<◌, ◌≤◌, length, take, drop, is_some, IfSome, nat_le};
-ghost use Rattle.encoding.specs.Numbers.{four_from, eight_from};
+ghost use Rattle.std.specs.Int.{w16, w32, w64};
+ghost use Rattle.encoding.specs.Numbers.{number_at};
 ghost use Rattle.encoding.specs.Rounds.{ReadBack};
 
 /// The first N bytes from a place on, if they are all there.
@@ -14,9 +15,17 @@ fn bytes_at<const N: usize>(bytes: &[u8], place: usize) -> Option<&[u8; N]>
     bytes.get(place..)?.first_chunk()
 }
 
+/// The number that two bytes from a place on hold; 0 where they are not all there.
+pub fn two_at(bytes: &[u8], place: usize) -> u16
+    ensures value { place + 2 ≤ length bytes.now → result ≡ number_at w16 bytes.now place }
+    ensures beyond { length bytes.now < place + 2 → result ≡ 0 }
+{
+    bytes_at(bytes, place).map_or(0, |found| u16::from_le_bytes(*found))
+}
+
 /// The number that four bytes from a place on hold; 0 where they are not all there.
 pub fn four_at(bytes: &[u8], place: usize) -> u32
-    ensures value { place + 4 ≤ length bytes.now → result ≡ four_from bytes.now place }
+    ensures value { place + 4 ≤ length bytes.now → result ≡ number_at w32 bytes.now place }
     ensures beyond { length bytes.now < place + 4 → result ≡ 0 }
 {
     bytes_at(bytes, place).map_or(0, |found| u32::from_le_bytes(*found))
@@ -24,7 +33,7 @@ pub fn four_at(bytes: &[u8], place: usize) -> u32
 
 /// The number that eight bytes from a place on hold; 0 where they are not all there.
 pub fn eight_at(bytes: &[u8], place: usize) -> u64
-    ensures value { place + 8 ≤ length bytes.now → result ≡ eight_from bytes.now place }
+    ensures value { place + 8 ≤ length bytes.now → result ≡ number_at w64 bytes.now place }
     ensures beyond { length bytes.now < place + 8 → result ≡ 0 }
 {
     bytes_at(bytes, place).map_or(0, |found| u64::from_le_bytes(*found))

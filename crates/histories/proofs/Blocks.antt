@@ -1,30 +1,19 @@
 -- The 64 codes and the 32 rows in eight blocks each: they are read back, and a block depends on its own part alone.
-use Rattle.std.proofs.Common.{◌≡◌, ℕ, ◌+◌, ◌-◌, ◌*◌, ◌/◌, ◌%◌, ◌^◌, ◌<◌, ◌≤◌, ◌⊎◌, List, [], map, length, get_or, take, drop, set, sym, ap, ◌∙◌, subst, inl, inr, arith}
+use Rattle.std.proofs.Common.{take-add, ◌≡◌, ℕ, zero, suc, ◌+◌, ◌-◌, ◌*◌, ◌/◌, ◌^◌, ◌<◌, ◌≤◌, ◌⊎◌, List, [], ◌++◌, map, length, get_or, take, drop, set, sym, ap, ◌∙◌, subst, inl, inr, arith}
 use Rattle.std.specs.List.{range_with_len, flat_map}
-use Rattle.std.proofs.lemmas.List.{length-drop, length-take, get_or-drop, get_or-take, drop-set-lt, drop-set-add, take-set-le, get_or_past, ext_get_or}
-use Rattle.std.proofs.lemmas.List.FromFn.{get_or-map-range_with_len, length-map-range_with_len}
+use Rattle.std.proofs.lemmas.List.{length-drop, length-take, get_or-drop, get_or-take, drop-set-lt, drop-set-add, take-set-le, drop-drop, take_all, get_or_past}
+use Rattle.std.proofs.lemmas.List.FromFn.{get_or-map-range_with_len}
 use Rattle.std.proofs.lemmas.Bool.{cases_lt}
-use Rattle.lists.proofs.Parts.{length-parts, get_or-parts}
 use Rattle.rights.specs.Covers.{free}
 use Rattle.rights.specs.declared.row.Row.{Row}
 use Rattle.layout.specs.Codes.{codes_form, codes_of}
 use Rattle.layout.specs.Rows.{rows_form, rows_of}
 use Rattle.layout.specs.Rounds.{CodesFit, RowsFit}
-use Rattle.layout.proofs.Back.{codes_read, rows_read}
+use Rattle.layout.specs.Laws.{codes_read, rows_read}
 use Rattle.image.specs.Home.{blocks_of_codes, blocks_of_rows}
-use Rattle.image.proofs.Places.{eight_codes, four_rows}
-
--- where an index stands: in which part, and where in it
-pub record Split (n i : ℕ) : Type 0 where
-  pub part : ℕ
-  pub rest : ℕ
-  pub part_low : part < 8
-  pub rest_low : rest < n
-  pub whole : i ≡ part * n + rest
-  pub again : n * part + rest ≡ i
 
 -- eight parts of n elements, each with a form of its own
-module _ {X : Type 0} (form : List X → List ℕ) (of : List ℕ → List X) (n : ℕ) (d : X) (each : (c : List ℕ) → length (of c) ≡ n) where
+module _ {X : Type 0} (form : List X → List ℕ) (n : ℕ) where
   abbrev part : List X → ℕ → List X
   part xs j = take n (drop (n * j) xs)
 
@@ -34,20 +23,17 @@ module _ {X : Type 0} (form : List X → List ℕ) (of : List ℕ → List X) (n
   form_at : (xs : List X) (j : ℕ) → j < 8 → get_or (forms xs) j [] ≡ form (part xs j)
   form_at xs j h = get_or-map-range_with_len (λ i. form (part xs i)) 0 8 j j [] h (omega arith)
 
-  -- what the parts' forms are read as
-  back : (xs : List X) → length xs ≡ 8 * n → ((i : ℕ) → i < 8 * n → Split n i) → ((j : ℕ) → j < 8 → of (form (part xs j)) ≡ part xs j) → flat_map of (forms xs) ≡ xs
-  back xs l split reads =
-      let eight : length (forms xs) ≡ 8 = length-map-range_with_len (λ i. form (part xs i)) 0 8 in
-      let all : length (flat_map of (forms xs)) ≡ 8 * n = length-parts of n each [] d (forms xs) ∙ ap (λ k. k * n) eight in
-      ext_get_or d (flat_map of (forms xs)) xs (all ∙ sym l)
-      (λ i h. let s = split i (omega (arith, all)) in
-      ap (λ k. get_or (flat_map of (forms xs)) k d) s.whole
-      ∙ get_or-parts of n each [] d (forms xs) s.part s.rest (omega (arith, eight, s.part_low)) s.rest_low
-      ∙ ap (λ (z : List ℕ). get_or (of z) s.rest d) (form_at xs s.part s.part_low)
-      ∙ ap (λ (z : List X). get_or z s.rest d) (reads s.part s.part_low)
-      ∙ get_or-take n (drop (n * s.part) xs) s.rest d s.rest_low
-      ∙ get_or-drop (n * s.part) xs s.rest d
-      ∙ ap (λ k. get_or xs k d) s.again)
+  -- what the parts' forms are read as: c of them, from part k on
+  back_from :
+      (of : List ℕ → List X) (xs : List X) (c k : ℕ) → ((j : ℕ) → j < k + c → of (form (part xs j)) ≡ part xs j)
+      → flat_map of (map (λ j. form (part xs j)) (range_with_len k c)) ≡ take (n * c) (drop (n * k) xs)
+  back_from of xs zero k reads = (let none : 0 ≡ n * 0 = omega arith in ap (λ i. take i (drop (n * k) xs)) none)
+  back_from of xs (suc c) k reads =
+      let next : n * (k + 1) ≡ n * k + n = omega arith in
+      let more : n * suc c ≡ n + n * c = omega arith in
+      ap (λ z. z ++ flat_map of (map (λ j. form (part xs j)) (range_with_len (k + 1) c))) (reads k (omega arith))
+      ∙ ap (λ z. part xs k ++ z) (back_from of xs c (k + 1) (λ j h. reads j (omega arith)) ∙ ap (λ i. take (n * c) (drop i xs)) next ∙ sym (ap (take (n * c)) (drop-drop n (n * k) xs)))
+      ∙ sym (ap (λ i. take i (drop (n * k) xs)) more ∙ take-add n (n * c) (drop (n * k) xs))
 
   -- an element of another part
   part_same : (xs : List X) (i j : ℕ) (x : X) → (i < n * j) ⊎ (n * j + n ≤ i) → part (set xs i x) j ≡ part xs j
@@ -72,34 +58,28 @@ part_all P n xs j i d here past =
       | inr h ↦ subst P (sym (get_or_past (take n (drop (n * j) xs)) i d (omega (arith, length-take n (drop (n * j) xs))))) past
     ]
 
-split_eight : (i : ℕ) → i < 8 * 8 → Split 8 i
-split_eight i h = record { part = i / 8; rest = i % 8; part_low = omega arith; rest_low = omega arith; whole = omega arith; again = omega arith }
-
-split_four : (i : ℕ) → i < 8 * 4 → Split 4 i
-split_four i h = record { part = i / 4; rest = i % 4; part_low = omega arith; rest_low = omega arith; whole = omega arith; again = omega arith }
-
 -- 64 codes of 64 bits are read back from their blocks
 pub codes_back : (codes : List ℕ) → length codes ≡ 64 → CodesFit codes → flat_map codes_of (blocks_of_codes codes) ≡ codes
 codes_back codes l fit =
-    back codes_form codes_of 8 0 eight_codes codes l split_eight
-    (λ j h. codes_read (take 8 (drop (8 * j) codes))
-    (part_long 8 codes j (omega arith))
+    back_from codes_form 8 codes_of codes 8 0
+    (λ j h. codes_read (take 8 (drop (8 * j) codes)) (part_long 8 codes j (omega arith))
     (λ i. part_all (λ c. c < 2 ^ 64) 8 codes j i 0 (fit (8 * j + i)) (omega arith)))
+    ∙ take_all 64 codes (omega arith)
 
 pub rows_back : (rows : List Row) → length rows ≡ 32 → RowsFit rows → flat_map rows_of (blocks_of_rows rows) ≡ rows
 rows_back rows l fit =
-    back rows_form rows_of 4 free four_rows rows l split_four
-    (λ j h. rows_read (take 4 (drop (4 * j) rows))
-    (part_long 4 rows j (omega arith))
+    back_from rows_form 4 rows_of rows 8 0
+    (λ j h. rows_read (take 4 (drop (4 * j) rows)) (part_long 4 rows j (omega arith))
     (λ i. part_all (λ w. w.mask < 2 ^ 64) 4 rows j i free (fit (4 * j + i)) (omega arith)))
+    ∙ take_all 32 rows (omega arith)
 
 -- a block of codes, and of rows, where an element of another block was replaced
 pub code_elsewhere : (codes : List ℕ) (i j x : ℕ) → j < 8 → (i / 8 ≡ j → ⊥) → get_or (blocks_of_codes (set codes i x)) j [] ≡ get_or (blocks_of_codes codes) j []
 code_elsewhere codes i j x h ne =
-    form_same codes_form codes_of 8 0 eight_codes codes i j x h
+    form_same codes_form 8 codes i j x h
     (elim (cases_lt i (8 * j)) [ inl a ↦ inl a | inr b ↦ inr (omega arith) ])
 
 pub row_elsewhere : (rows : List Row) (i j : ℕ) (w : Row) → j < 8 → (i / 4 ≡ j → ⊥) → get_or (blocks_of_rows (set rows i w)) j [] ≡ get_or (blocks_of_rows rows) j []
 row_elsewhere rows i j w h ne =
-    form_same rows_form rows_of 4 free four_rows rows i j w h
+    form_same rows_form 4 rows i j w h
     (elim (cases_lt i (4 * j)) [ inl a ↦ inl a | inr b ↦ inr (omega arith) ])

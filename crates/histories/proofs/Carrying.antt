@@ -1,84 +1,78 @@
 -- What a record that was carried out tells: its tests passed, there was room, and its effect is what stands after it.
-use Rattle.std.proofs.Common.{◌≡◌, ℕ, ◌<◌, ◌≤◌, Bool, true, false, cond, ◌&&◌, ◌||◌, eqb, leb, ltb, List, get_or, Some, None, Ok, Err, Option, Result, refl, sym, ap, ◌∙◌, arith}
+use Rattle.std.proofs.Common.{◌≡◌, ℕ, ◌<◌, ◌≤◌, Bool, true, false, ◌&&◌, ◌||◌, eqb, leb, ltb, List, get_or, Some, None, Ok, Err, Option, Result, refl, sym, ap, ◌∙◌, not, if◌then◌else◌}
 use Rattle.std.proofs.lemmas.Bool.{leb-true, ltb-true, eqb-false}
+use Rattle.lists.specs.Answers.{passed, same_ok, not_ok}
 use Rattle.refusals.specs.declared.reasons.Reason.{Reason}
+use Rattle.refusals.specs.declared.reasons.Reason.TheVariants.{EntererNotEntitled, CountersignerNotEntitled}
 use Rattle.refusals.specs.declared.refusal.Refusal.{Refusal}
 use Rattle.refusals.specs.declared.step_place.StepPlace.{StepPlace}
+use Rattle.refusals.specs.Laws.{accepted_then, accepted_after}
 use Rattle.books.specs.Meaning.{Meaning, has_procedure}
-use Rattle.books.proofs.Accepted.{passed, same_ok}
 use Rattle.rights.specs.Covers.{covered, uncovered, free, is_free}
 use Rattle.rights.specs.declared.row.Asked.{Asked}
-use Rattle.rights.specs.declared.row.Role.TheVariants.{Enter, Countersign}
 use Rattle.rights.specs.declared.row.Row.{Row}
 use Rattle.records.specs.declared.record.Posting.{Posting}
-use Rattle.carrying.specs.Standing.{Standing, with_codes, with_row, step_on}
-use Rattle.carrying.specs.Carried.{unless, after_step, posted}
-use Rattle.carrying.specs.Rows.{checked_row, if_room, filled, certified, struck}
-use Rattle.image.proofs.Accepting.{accepted_then}
+use Rattle.carrying.specs.declared.row_draft.RowDraft.{RowDraft}
+use Rattle.carrying.specs.Standing.{Standing, with_codes, with_row, step_on, draft_of}
+use Rattle.carrying.specs.Carried.{enters, countersigns, two_people, none_uncovered, codes_given, posted}
+use Rattle.carrying.specs.Rows.{asked_row, checked_row, had_room, row_set, filled, certified, struck}
 use Rattle.histories.specs.Law.{Entitled, TwoPeople}
 
 -- an answer that is no refusal came through a test that refuses when it holds
-refused_if : {X : Type 0} (t : Bool) (e : Refusal) (r : Result X Refusal) (x : X) → cond t (Err e) r ≡ Ok x → (t ≡ false) × (r ≡ Ok x)
-refused_if true e r x h = absurd (let z : ◌≡◌ {A = ℕ} 0 1 = cc in omega arith)
+refused_if : {X : Type 0} (t : Bool) (e : Refusal) (r : Result X Refusal) (x : X) → (if t then Err e else r) ≡ Ok x → (t ≡ false) × (r ≡ Ok x)
+refused_if true e r x h = not_ok x e (sym h)
 refused_if false e r x h = (refl, h)
 
--- and through one that refuses where an item is not covered
-covered_unless : {X : Type 0} (why : Reason) (o : Option ℕ) (r : Result X Refusal) (x : X) → unless why o r ≡ Ok x → (o ≡ None) × (r ≡ Ok x)
-covered_unless why None r x h = (refl, h)
-covered_unless why (Some i) r x h = absurd (let z : ◌≡◌ {A = ℕ} 0 1 = cc in omega arith)
+-- where no item is refused, none is uncovered
+none_refused : (why : Reason) (o : Option ℕ) (x : Unit {0}) → none_uncovered why o ≡ Ok x → o ≡ None
+none_refused why None x h = refl
+none_refused why (Some i) x h = not_ok x _ (sym h)
 
 -- where none of two items is uncovered, both are covered
 both_covered : (rows : List Row) (q : Asked) (a b : ℕ) → uncovered rows q a b ≡ None → Entitled rows q a b
 both_covered rows q a b h = tested (covered rows q a) (covered rows q b) refl refl h where
-  tested : (s t : Bool) → covered rows q a ≡ s → covered rows q b ≡ t → cond s (cond t None (Some b)) (Some a) ≡ None → Entitled rows q a b
+  tested : (s t : Bool) → covered rows q a ≡ s → covered rows q b ≡ t → (if not s then Some a else if not t then Some b else None) ≡ None → Entitled rows q a b
   tested true true p r h = (p, r)
-  tested true false p r h = absurd (let z : ◌≡◌ {A = ℕ} 0 1 = cc in omega arith)
-  tested false t p r h = absurd (let z : ◌≡◌ {A = ℕ} 0 1 = cc in omega arith)
+  tested true false p r h = cc
+  tested false t p r h = cc
 
--- a posting that is carried out on what stands
-abbrev pub post : Meaning → ℕ → Standing → Posting → Result Standing Refusal
-post m room s p = posted m room s p.enterer p.countersigner p.procedure p.a p.b p.amount
+given : (r : Result (ℕ × ℕ) StepPlace) (codes : ℕ × ℕ) → codes_given r ≡ Ok codes → r ≡ Ok codes
+given (Ok xy) codes h = ap Ok (same_ok xy codes h)
+given (Err e) codes h = not_ok codes _ (sym h)
+
+roomy : (room : ℕ) (s : Standing) (x : Unit {0}) → had_room room s ≡ Ok x → s.count < room
+roomy room s x h = ltb-true s.count room (passed (ltb s.count room) (Ok tt) _ x h).0
 
 -- a posting that was carried out
 pub record Posted (m : Meaning) (room : ℕ) (s : Standing) (p : Posting) (t : Standing) : Type 0 where
   pub people : TwoPeople s.rows p
   pub had_room : s.count < room
-  pub x : ℕ
-  pub y : ℕ
-  pub stepped : step_on m s p.procedure p.a p.b p.amount ≡ Ok (x, y)
+  pub codes : ℕ × ℕ
+  pub stepped : step_on m s (draft_of p) ≡ Ok codes
   pub valid : m.valid t.items ≡ true
-  pub is : t ≡ with_codes s p.a p.b x y
+  pub is : t ≡ with_codes s p.a p.b codes
 
-stepped_to :
-    (m : Meaning) (s : Standing) (a b : ℕ) (r : Result (ℕ × ℕ) StepPlace) (t : Standing) → after_step m s a b r ≡ Ok t
-    → (x y : ℕ) × (r ≡ Ok (x, y)) × (m.valid t.items ≡ true) × (t ≡ with_codes s a b x y)
-stepped_to m s a b (Ok xy) t h =
-    let p = passed (m.valid (with_codes s a b xy.0 xy.1).items) (Ok (with_codes s a b xy.0 xy.1)) _ t h in
-    let same = same_ok (with_codes s a b xy.0 xy.1) t p.1 in
-    (xy.0, xy.1, refl, ap (λ (z : Standing). m.valid z.items) (sym same) ∙ p.0, sym same)
-stepped_to m s a b (Err e) t h = absurd (let z : ◌≡◌ {A = ℕ} 0 1 = cc in omega arith)
-
-pub posted_tells : (m : Meaning) (room : ℕ) (s : Standing) (p : Posting) (t : Standing) → post m room s p ≡ Ok t → Posted m room s p t
+pub posted_tells : (m : Meaning) (room : ℕ) (s : Standing) (p : Posting) (t : Standing) → posted m room s p ≡ Ok t → Posted m room s p t
 posted_tells m room s p t h =
-    let enters : Asked = record { user = p.enterer; procedure = p.procedure; role = Enter } in
-    let countersigns : Asked = record { user = p.countersigner; procedure = p.procedure; role = Countersign } in
-    let h1 = refused_if (eqb p.countersigner p.enterer) _ _ t h in
-    let h2 = covered_unless _ (uncovered s.rows enters p.a p.b) _ t h1.1 in
-    let h3 = covered_unless _ (uncovered s.rows countersigns p.a p.b) _ t h2.1 in
-    let h4 = passed (ltb s.count room) (after_step m s p.a p.b (step_on m s p.procedure p.a p.b p.amount)) _ t h3.1 in
-    let h5 = stepped_to m s p.a p.b (step_on m s p.procedure p.a p.b p.amount) t h4.1 in
+    let h1 = accepted_after (two_people p) _ t h in
+    let h2 = accepted_after (none_uncovered EntererNotEntitled (uncovered s.rows (enters p) p.a p.b)) _ t h1.2 in
+    let h3 = accepted_after (none_uncovered CountersignerNotEntitled (uncovered s.rows (countersigns p) p.a p.b)) _ t h2.2 in
+    let h4 = accepted_after (had_room room s) _ t h3.2 in
+    let h5 = accepted_then (codes_given (step_on m s (draft_of p))) _ t h4.2 in
+    let after = with_codes s p.a p.b h5.0 in
+    let h6 = passed (m.valid after.items) (Ok after) _ t h5.2 in
+    let is : after ≡ t = same_ok after t h6.1 in
     record {
       people = record {
-        different = λ q. eqb-false p.countersigner p.enterer h1.0 (sym q);
-        enters = both_covered s.rows enters p.a p.b h2.0;
-        countersigns = both_covered s.rows countersigns p.a p.b h3.0;
+        different = λ q. eqb-false p.countersigner p.enterer (refused_if (eqb p.countersigner p.enterer) _ _ h1.0 h1.1).0 (sym q);
+        enterer = both_covered s.rows (enters p) p.a p.b (none_refused _ _ h2.0 h2.1);
+        countersigner = both_covered s.rows (countersigns p) p.a p.b (none_refused _ _ h3.0 h3.1);
       };
-      had_room = ltb-true s.count room h4.0;
-      x = h5.0;
-      y = h5.1;
-      stepped = h5.2;
-      valid = h5.3;
-      is = h5.4;
+      had_room = roomy room s h4.0 h4.1;
+      codes = h5.0;
+      stepped = given _ h5.0 h5.1;
+      valid = ap (λ (z : Standing). m.valid z.items) (sym is) ∙ h6.0;
+      is = sym is;
     }
 
 -- a row that was filled or freed
@@ -87,29 +81,28 @@ pub record RowSet (room : ℕ) (s : Standing) (k : ℕ) (w : Row) (t : Standing)
   pub had_room : s.count < room
   pub is : t ≡ with_row s k w
 
-roomy : (room : ℕ) (s t u : Standing) → if_room room s t ≡ Ok u → (s.count < room) × (u ≡ t)
-roomy room s t u h =
-    let p = passed (ltb s.count room) (Ok t) _ u h in (ltb-true s.count room p.0, sym (same_ok t u p.1))
+row_is_set : (room : ℕ) (s : Standing) (k : ℕ) (w : Row) (t : Standing) → k ≤ 31 → row_set room s k w ≡ Ok t → RowSet room s k w t
+row_is_set room s k w t low h =
+    let r = accepted_after (had_room room s) _ t h in
+    record { row_low = low; had_room = roomy room s r.0 r.1; is = sym (same_ok _ t r.2) }
 
-row_checked : (m : Meaning) (k : ℕ) (w v : Row) → checked_row m k w ≡ Ok v → (k ≤ 31) × (v ≡ w)
-row_checked m k w v h =
-    let h1 = passed (leb k 31) _ _ v h in
-    let h2 = passed (leb 1 w.user && leb w.user 15) _ _ v h1.1 in
-    let h3 = passed (has_procedure m w.procedure) _ _ v h2.1 in
-    let h4 = passed (eqb w.role 1 || eqb w.role 2) _ _ v h3.1 in
-    let h5 = refused_if (eqb w.mask 0) _ (Ok w) v h4.1 in (leb-true k 31 h1.0, sym (same_ok w v h5.1))
+row_checked : (m : Meaning) (d : RowDraft) (w : Row) → checked_row m d ≡ Ok w → (d.row ≤ 31) × (asked_row d ≡ w)
+row_checked m d w h =
+    let h1 = passed (leb d.row 31) _ _ w h in
+    let h2 = passed (leb 1 d.user && leb d.user 15) _ _ w h1.1 in
+    let h3 = passed (has_procedure m d.procedure) _ _ w h2.1 in
+    let h4 = passed (eqb d.role 1 || eqb d.role 2) _ _ w h3.1 in
+    let h5 = refused_if (eqb d.mask 0) _ _ w h4.1 in (leb-true d.row 31 h1.0, same_ok (asked_row d) w h5.1)
 
-pub certified_tells : (m : Meaning) (room : ℕ) (s : Standing) (k : ℕ) (w : Row) (t : Standing) → certified m room s k w ≡ Ok t → RowSet room s k w t
-certified_tells m room s k w t h =
-    let v = accepted_then (checked_row m k w) (filled room s k) t h in
-    let c = row_checked m k w v.0 v.1 in
-    let f = passed (is_free (get_or s.rows k free)) (if_room room s (with_row s k v.0)) _ t v.2 in
-    let r = roomy room s (with_row s k v.0) t f.1 in
-    record { row_low = c.0; had_room = r.0; is = r.1 ∙ ap (with_row s k) c.1 }
+pub certified_tells : (m : Meaning) (room : ℕ) (s : Standing) (d : RowDraft) (t : Standing) → certified m room s d ≡ Ok t → RowSet room s d.row (asked_row d) t
+certified_tells m room s d t h =
+    let v = accepted_then (checked_row m d) (filled room s d.row) t h in
+    let c = row_checked m d v.0 v.1 in
+    let f = passed (is_free (get_or s.rows d.row free)) (row_set room s d.row v.0) _ t v.2 in
+    row_is_set room s d.row (asked_row d) t c.0 (ap (row_set room s d.row) c.1 ∙ f.1)
 
 pub struck_tells : (room : ℕ) (s : Standing) (k : ℕ) (t : Standing) → struck room s k ≡ Ok t → RowSet room s k free t
 struck_tells room s k t h =
     let h1 = passed (leb k 31) _ _ t h in
-    let h2 = refused_if (is_free (get_or s.rows k free)) _ (if_room room s (with_row s k free)) t h1.1 in
-    let r = roomy room s (with_row s k free) t h2.1 in
-    record { row_low = leb-true k 31 h1.0; had_room = r.0; is = r.1 }
+    let h2 = refused_if (is_free (get_or s.rows k free)) _ (row_set room s k free) t h1.1 in
+    row_is_set room s k free t (leb-true k 31 h1.0) h2.1

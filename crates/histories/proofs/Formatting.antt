@@ -1,27 +1,24 @@
 -- Format: accepted, the books begin; refused, they are as they were.
-use Rattle.std.proofs.Common.{◌≡◌, ℕ, ◌^◌, ◌<◌, ◌≤◌, true, ◌&&◌, eqb, leb, ltb, List, ◌++◌, length, get_or, drop, Some, None, Ok, Err, Option, Result, refl, sym, ap, ◌∙◌, subst, inl, inr, arith}
-use Rattle.std.proofs.lemmas.Bool.{and_parts, leb-true, ltb-true, eqb-true, cond-false, ne_eqb, cases_lt}
+use Rattle.std.proofs.Common.{◌≡◌, ℕ, ◌^◌, ◌<◌, ◌≤◌, true, ◌&&◌, eqb, leb, ltb, List, ◌++◌, length, get_or, drop, Ok, Err, Option, Result, refl, sym, ap, ◌∙◌, subst, inl, inr, arith, not, IfSome}
+use Rattle.std.proofs.lemmas.Bool.{and_parts, leb-true, ltb-true, eqb-true, cond-false, cases_lt}
 use Rattle.std.proofs.lemmas.List.{get_or-replicate, get_or_past}
-use Rattle.refusals.specs.declared.reasons.Reason.TheVariants as reason
+use Rattle.lists.specs.Answers.{passed}
 use Rattle.refusals.specs.declared.refusal.Refusal.{Refusal}
 use Rattle.refusals.specs.Numbers.{number}
-use Rattle.refusals.specs.Refused.{refused}
 use Rattle.books.specs.Meaning.{Meaning}
-use Rattle.books.proofs.Accepted.{passed}
-use Rattle.drives.specs.Disk.{size}
-use Rattle.journals.specs.Redo.{home}
+use Rattle.journals.specs.State.{size, home_of}
 use Rattle.rights.specs.Covers.{free}
 use Rattle.rights.specs.declared.row.Row.{Row}
 use Rattle.records.specs.declared.record.Record.TheVariants.{Posting}
 use Rattle.layout.specs.Rounds.{CodesFit}
-use Rattle.image.specs.Lawful.{lawful_size, room}
+use Rattle.image.specs.Layout.{lawful_size, room}
 use Rattle.monitor.specs.declared.stage.Stage.TheVariants.{Open}
 use Rattle.monitor.specs.Machine.{Machine}
 use Rattle.monitor.specs.Starting.{formattable, first_home, Formats, Starts, FormatDone}
 use Rattle.histories.specs.Tally.{Tally, began, certain, formatted}
 use Rattle.histories.proofs.Good.{Good, free_rows, no_tail}
 use Rattle.histories.proofs.Keeping.{Inv, inv_at}
-use Rattle.histories.proofs.Refusing.{NotLost, Clean, clean_ok, clean_refused, clean_cond}
+use Rattle.histories.proofs.Refusing.{NotLost, Clean, clean_ok, clean_if}
 use Rattle.histories.proofs.Showing.{Shown}
 
 -- the tests that passed
@@ -52,15 +49,11 @@ tests_passed m n house roll opening r e =
 
 clean_format : (m : Meaning) (n house : ℕ) (roll opening : List ℕ) → Clean (formattable m n house roll opening)
 clean_format m n house roll opening =
-    clean_cond (leb 1 house && ltb house (2 ^ 32)) _ _
-    (clean_cond (eqb (length roll) 128) _ _
-    (clean_cond (eqb (length opening) 64) _ _
-    (clean_cond (lawful_size n) _ _
-    (clean_cond (m.valid opening) _ _ (clean_ok tt) (clean_refused reason.InvalidOpening 0 (λ e. omega arith)))
-    (clean_refused reason.BadSize n (λ e. omega arith)))
-    (bad _)) (bad _)) (bad _) where
-      bad : (place : ℕ) → Clean {X = Unit {0}} (refused reason.BadFormat place)
-      bad place = clean_refused reason.BadFormat place (λ e. omega arith)
+    clean_if (not (leb 1 house && ltb house (2 ^ 32))) _ _ _ refl
+    (clean_if (not (eqb (length roll) 128)) _ _ _ refl
+    (clean_if (not (eqb (length opening) 64)) _ _ _ refl
+    (clean_if (not (lawful_size n)) _ _ _ refl
+    (clean_if (not (m.valid opening)) _ _ _ refl (clean_ok tt)))))
 
 free_fit : (i : ℕ) → (get_or free_rows i free).mask < 2 ^ 64
 free_fit i =
@@ -73,17 +66,12 @@ free_fit i =
 began_good : (m : Meaning) (most n house : ℕ) (roll opening : List ℕ) → Formattable m n house roll opening → CodesFit opening → Good m most (began opening)
 began_good m most n house roll opening f fit =
     record {
-      valid_opening = f.valid;
-      valid = f.valid;
+      opening = record { valid = f.valid; long = f.opening_long; fit = fit };
+      items = record { valid = f.valid; long = f.opening_long; fit = fit };
+      rows = record { long = refl; fit = free_fit };
       carried_out = refl;
       every = refl;
       few = omega arith;
-      long_items = f.opening_long;
-      items_fit = fit;
-      long_opening = f.opening_long;
-      opening_fit = fit;
-      long_rows = refl;
-      rows_fit = free_fit;
       rows_given = refl;
       by_two = λ before after p q. no_tail (Posting p) before after q;
     }
@@ -106,31 +94,30 @@ done_keeps :
     (m : Meaning) (house : ℕ) (roll opening : List ℕ) (s u : Machine) → Formattable m (size s.disk) house roll opening → CodesFit opening
     → FormatDone (first_home m house roll opening) s u → Inv m (certain (began opening)) u
 done_keeps m house roll opening s u f fit d =
-    let same : size u.disk ≡ size s.disk = d.laid.same_size ∙ d.powered.same_size in
+    let same : size u.disk ≡ size s.disk = d.laid.same_size ∙ d.turned_on.same_size in
     inv_at m (certain (began opening)) s.disk u Open f.fits same (began_good m (room (size s.disk)) (size s.disk) house roll opening f fit) d.stage
     (record {
       sure = refl;
       working = record {
         ready = d.laid.ready;
-        shows = subst (λ h. Shown m (began opening) h) (sym d.laid.home_now) (began_shown m (size s.disk) house roll opening (drop 27 (home d.left.blocks)) f);
+        shows = subst (λ h. Shown m (began opening) h) (sym d.laid.home_now) (began_shown m (size s.disk) house roll opening (drop 27 (home_of d.left)) f);
       };
     })
 
 -- where there is a tally, its invariant holds
 abbrev pub InvIf : Meaning → Option Tally → Machine → Type 0
-InvIf m None s = Unit {0}
-InvIf m (Some t) s = Inv m t s
+InvIf m o s = IfSome o (λ t. Inv m t s)
 
 -- a refusal that is not for lost power leaves the tally, or that there is none
 refusal_leaves : (opening : List ℕ) (o : Option Tally) (e : Refusal) → NotLost e → formatted opening (Err e) o ≡ o
-refusal_leaves opening o e n = cond-false (eqb (number e.reason) 7) _ _ (ne_eqb (number e.reason) 7 n)
+refusal_leaves opening o e n = cond-false (eqb (number e.reason) 7) _ _ n
 
 format_by :
     (m : Meaning) (house : ℕ) (roll opening : List ℕ) (o : Option Tally) (s u : Machine) (r : Result ℕ Refusal) (tests : Result (Unit {0}) Refusal)
     → formattable m (size s.disk) house roll opening ≡ tests → CodesFit opening → InvIf m o s → Starts (first_home m house roll opening) tests s r u
     → InvIf m (formatted opening r o) u
 format_by m house roll opening o s u r (Err e) q fit i d =
-    let same : formatted opening r o ≡ o = ap (λ z. formatted opening z o) d.answer ∙ refusal_leaves opening o e ((clean_format m (size s.disk) house roll opening).clean e q) in
+    let same : formatted opening r o ≡ o = ap (λ z. formatted opening z o) d.answer ∙ refusal_leaves opening o e (subst (λ z. Clean z) q (clean_format m (size s.disk) house roll opening)).clean in
     subst (λ (z : Machine). InvIf m (formatted opening r o) z) (sym d.same) (subst (λ (z : Option Tally). InvIf m z s) (sym same) i)
 format_by m house roll opening o s u (Ok n) (Ok v) q fit i d = done_keeps m house roll opening s u (tests_passed m (size s.disk) house roll opening v q) fit d.1
 format_by m house roll opening o s u (Err e) (Ok v) q fit i d = subst (λ (z : Refusal). InvIf m (formatted opening (Err z) o) u) (sym d.answer) tt

@@ -1,79 +1,49 @@
 -- The law of every history.
-use Rattle.std.proofs.Common.{◌≡◌, ℕ, List, Some, None, Err, Option, Result, refl, sym, ap, ◌∙◌, subst}
+use Rattle.std.proofs.Common.{◌≡◌, ℕ, List, Some, None, Option, Result, refl, sym, ap, subst, IfSome}
 use Rattle.refusals.specs.declared.refusal.Refusal.{Refusal}
+use Rattle.refusals.specs.Refused.{◌>>◌}
 use Rattle.books.specs.Meaning.{Meaning, StepTests, StepGivesCodes}
-use Rattle.changes.specs.Plan.{Plan}
-use Rattle.drives.specs.Disk.{Disk}
-use Rattle.journals.specs.Standing.{Choice}
+use Rattle.changes.specs.declared.change.Home.{Home}
+use Rattle.journals.specs.Laws.{taken_finishable, taken_stands}
+use Rattle.journals.specs.State.{State, TakenOver}
 use Rattle.records.specs.declared.record.Record.{Record}
 use Rattle.records.specs.declared.record.Record.TheVariants.{Strike}
-use Rattle.carrying.specs.declared.row_draft.RowDraft.{RowDraft}
-use Rattle.image.specs.Lawful.{room}
+use Rattle.image.specs.Layout.{room}
 use Rattle.monitor.specs.declared.stage.Stage.{Stage}
 use Rattle.monitor.specs.declared.stage.Stage.TheVariants.{Shut, Open, Dark}
 use Rattle.monitor.specs.Calls.{Changes, posting, countersigned, certification, certifying, striking}
-use Rattle.monitor.specs.Machine.{Machine, machine, home_of, room_of, Refuses}
-use Rattle.histories.specs.Events.{Event, Formatted, Attached, NoteEntered, Countersigned, Certified, Struck, ItemSeen, RecordSeen, Happens, History, begun, then, again, TakenOver}
-use Rattle.histories.specs.Law.{Agrees, Known, TookEffect, Owed, AllOwed, Law}
+use Rattle.monitor.specs.Stages.{may_work}
+use Rattle.monitor.specs.Machine.{Machine, machine, home_of, room_of}
+use Rattle.histories.specs.Events.{Event, Formatted, Attached, NoteEntered, Countersigned, Certified, Struck, ItemSeen, RecordSeen, Happens, History, begun, then, again}
+use Rattle.histories.specs.Law.{Agrees, TookEffect, Owed, AllOwed, Law}
 use Rattle.histories.specs.Tally.{Tally, certain, by_answer, feed, tally}
 use Rattle.histories.proofs.Attaching.{attach_keeps}
 use Rattle.histories.proofs.Formatting.{InvIf, format_keeps}
-use Rattle.histories.proofs.Keeping.{Inv, At, AtWork, MayShow, Wants, waits, inv_at, wants_keeps}
+use Rattle.histories.proofs.Keeping.{Inv, At, AtWork, MayShow, Wants, waits, inv_at, refused_keeps, wants_keeps}
 use Rattle.histories.proofs.Showing.{shows_items, shows_rows, shows_records, shows_opening}
 use Rattle.histories.proofs.Wanting.{countersigned_wants, certifying_wants, striking_wants, shows_after}
 
--- a call that was refused, with a refusal that is nothing to the tally
-refused_keeps :
-    (m : Meaning) (t : Tally) (x : Record) (s u : Machine) (e : Refusal) (r : Result ℕ Refusal) → by_answer m t x (Err e) ≡ t
-    → Refuses s e r u → Inv m t s → Inv m (by_answer m t x r) u × TookEffect m t.books x r
-refused_keeps m t x s u e r nothing f i =
-    let same : by_answer m t x r ≡ t = ap (by_answer m t x) f.answer ∙ nothing in (
-      subst (λ (z : Machine). Inv m (by_answer m t x r) z) (sym f.same) (subst (λ (z : Tally). Inv m z s) (sym same) i),
-      subst (λ (z : Result ℕ Refusal). TookEffect m t.books x z) (sym f.answer) tt,
-    )
-
 -- a change that is wanted, on an open monitor
 open_keeps :
-    (m : Meaning) → StepGivesCodes m → (t : Tally) (d : Disk) (x : Record) (w : Result Plan Refusal) (r : Result ℕ Refusal) (u : Machine)
+    (m : Meaning) → StepGivesCodes m → (t : Tally) (d : State) (x : Record) (w : Result (List Home) Refusal) (r : Result ℕ Refusal) (u : Machine)
     → (i : Inv m t (machine Open d)) → Wants m t.books d x w → Changes w (machine Open d) r u → Inv m (by_answer m t x r) u × TookEffect m t.books x r
 open_keeps m gives t d x w r u i v c =
     let sure : certain t.books ≡ t = ap (λ (o : Option Record). record { books = t.books; doubt = o }) (sym i.at.sure) in
-    let k = wants_keeps m gives t.books d x i.fits i.good i.at.working w r u v (λ y a q h e. shows_after m t.books d i.fits i.good i.at.working x a y v.fits q h e) c in
+    let k = wants_keeps m gives t.books d x i.fits i.good i.at.working w r u v (λ y u q. shows_after m t.books d i.fits i.good i.at.working x u y q) c in
     (subst (λ (z : Tally). Inv m (by_answer m z x r) u) sure k.0, k.1)
 
 module _ (m : Meaning) (tests : StepTests m) (gives : StepGivesCodes m) where
-  countersigned_keeps :
-      (t : Tally) (st : Stage) (d : Disk) (user : ℕ) (word : List ℕ) (slip : _) (r : Result ℕ Refusal) (u : Machine)
-      → Inv m t (machine st d) → Happens m (machine st d) (Countersigned user word slip r) u
-      → Inv m (by_answer m t (posting slip user) r) u × TookEffect m t.books (posting slip user) r
-  countersigned_keeps t Shut d user word slip r u i c = refused_keeps m t (posting slip user) (machine Shut d) u _ r refl c.changes i
-  countersigned_keeps t Dark d user word slip r u i c = refused_keeps m t (posting slip user) (machine Dark d) u _ r refl c.changes i
-  countersigned_keeps t Open d user word slip r u i c =
-      open_keeps m gives t d (posting slip user) (countersigned m (machine Open d) user word slip) r u i
-      (countersigned_wants m t.books d i.fits i.good i.at.working tests user word slip c.note) c.changes
-
-  certified_keeps :
-      (t : Tally) (st : Stage) (d : Disk) (word : List ℕ) (asked : RowDraft) (r : Result ℕ Refusal) (u : Machine)
-      → Inv m t (machine st d) → Happens m (machine st d) (Certified word asked r) u
-      → Inv m (by_answer m t (certification asked) r) u × TookEffect m t.books (certification asked) r
-  certified_keeps t Shut d word asked r u i c = refused_keeps m t (certification asked) (machine Shut d) u _ r refl c.changes i
-  certified_keeps t Dark d word asked r u i c = refused_keeps m t (certification asked) (machine Dark d) u _ r refl c.changes i
-  certified_keeps t Open d word asked r u i c =
-      open_keeps m gives t d (certification asked) (certifying m (machine Open d) word asked) r u i
-      (certifying_wants m t.books d i.fits i.good i.at.working word asked c.fits) c.changes
-
-  struck_keeps :
-      (t : Tally) (st : Stage) (d : Disk) (word : List ℕ) (row : ℕ) (r : Result ℕ Refusal) (u : Machine)
-      → Inv m t (machine st d) → Happens m (machine st d) (Struck word row r) u
-      → Inv m (by_answer m t (Strike row) r) u × TookEffect m t.books (Strike row) r
-  struck_keeps t Shut d word row r u i c = refused_keeps m t (Strike row) (machine Shut d) u _ r refl c i
-  struck_keeps t Dark d word row r u i c = refused_keeps m t (Strike row) (machine Dark d) u _ r refl c i
-  struck_keeps t Open d word row r u i c =
-      open_keeps m gives t d (Strike row) (striking (machine Open d) word row) r u i
-      (striking_wants m t.books d i.fits i.good i.at.working word row) c
+  -- a call that is admitted on an open monitor alone
+  call_keeps :
+      (t : Tally) (st : Stage) (d : State) (x : Record) (w : Result (List Home) Refusal) (r : Result ℕ Refusal) (u : Machine)
+      → Inv m t (machine st d) → (Inv m t (machine Open d) → Wants m t.books d x w) → Changes (may_work st >> w) (machine st d) r u
+      → Inv m (by_answer m t x r) u × TookEffect m t.books x r
+  call_keeps t Shut d x w r u i v c = refused_keeps m t x (machine Shut d) u _ r refl c i
+  call_keeps t Dark d x w r u i v c = refused_keeps m t x (machine Dark d) u _ r refl c i
+  call_keeps t Open d x w r u i v c = open_keeps m gives t d x w r u i (v i) c
 
   -- each event keeps the invariant, with the tally fed, and gives the tally what it owes
-  event_keeps : (o : Option Tally) (s u : Machine) (e : Event) → InvIf m o s → Happens m s e u → InvIf m (feed m o e) u × Known o (λ t. Owed m t e)
+  event_keeps : (o : Option Tally) (s u : Machine) (e : Event) → InvIf m o s → Happens m s e u → InvIf m (feed m o e) u × IfSome o (λ t. Owed m t e)
   event_keeps None s u (Formatted house roll opening r) i h = (format_keeps m house roll opening None s u r i h, tt)
   event_keeps None s u (Attached r) i h = (tt, tt)
   event_keeps None s u (NoteEntered user word note r) i h = (tt, tt)
@@ -85,24 +55,27 @@ module _ (m : Meaning) (tests : StepTests m) (gives : StepGivesCodes m) where
   event_keeps (Some t) s u (Formatted house roll opening r) i h = (format_keeps m house roll opening (Some t) s u r i h, tt)
   event_keeps (Some t) s u (Attached r) i h = attach_keeps m t s i r u h
   event_keeps (Some t) s u (NoteEntered user word note r) i h = (subst (λ (z : Machine). Inv m t z) (sym h.1) i, tt)
-  event_keeps (Some t) s u (Countersigned user word slip r) i h = countersigned_keeps t s.stage s.disk user word slip r u i h
-  event_keeps (Some t) s u (Certified word asked r) i h = certified_keeps t s.stage s.disk word asked r u i h
-  event_keeps (Some t) s u (Struck word row r) i h = struck_keeps t s.stage s.disk word row r u i h
+  event_keeps (Some t) s u (Countersigned user word slip r) i h =
+      call_keeps t s.stage s.disk (posting slip user) (countersigned m (machine Open s.disk) user word slip) r u i
+      (λ j. countersigned_wants m t.books s.disk j.fits j.good j.at.working tests user word slip h.note) h.changes
+  event_keeps (Some t) s u (Certified word asked r) i h =
+      call_keeps t s.stage s.disk (certification asked) (certifying m (machine Open s.disk) word asked) r u i
+      (λ j. certifying_wants m t.books s.disk j.fits j.good j.at.working word asked h.fits) h.changes
+  event_keeps (Some t) s u (Struck word row r) i h =
+      call_keeps t s.stage s.disk (Strike row) (striking (machine Open s.disk) word row) r u i
+      (λ j. striking_wants m t.books s.disk j.fits j.good j.at.working word row) h
   event_keeps (Some t) s u (ItemSeen item r) i h = (subst (λ (z : Machine). Inv m t z) (sym h.1) i, tt)
   event_keeps (Some t) s u (RecordSeen number r) i h = (subst (λ (z : Machine). Inv m t z) (sym h.1) i, tt)
 
   -- a drive that another monitor takes over
-  taken_choice : (d e : Disk) (p : List (List ℕ)) → TakenOver d e → Choice e p → Choice d p
-  taken_choice d e p k c = record { same_size = c.same_size ∙ k.same_size; each = λ j l. k.no_more j _ (c.each j l) }
-
-  taken_keeps : (o : Option Tally) (s : Machine) (d : Disk) → InvIf m o s → TakenOver s.disk d → InvIf m o (machine Shut d)
+  taken_keeps : (o : Option Tally) (s : Machine) (d : State) → InvIf m o s → TakenOver s.disk d → InvIf m o (machine Shut d)
   taken_keeps None s d i k = tt
   taken_keeps (Some t) s d i k =
       let w = waits m t s.stage s.disk i.at in
       inv_at m t s.disk (machine Shut d) Shut i.fits k.same_size i.good refl
       (record {
-        finishable = λ p c. w.finishable p (taken_choice s.disk d p k c);
-        shows = λ h v. subst (λ n. MayShow m (room n) t.books t.doubt h) (sym k.same_size) (w.shows h (record { choice = v.choice; stood = taken_choice s.disk d v.choice k v.stood; lawful = v.lawful; leaves = v.leaves }));
+        finishable = taken_finishable s.disk d k w.finishable;
+        shows = λ h v. subst (λ n. MayShow m (room n) t.books t.doubt h) (sym k.same_size) (w.shows h (taken_stands s.disk d k h v));
       })
 
   history_keeps : (es : List Event) (s : Machine) → History m es s → InvIf m (tally m es) s × AllOwed m es
@@ -116,7 +89,7 @@ module _ (m : Meaning) (tests : StepTests m) (gives : StepGivesCodes m) where
       (taken_keeps (tally m es) s d i.0 k, i.1)
 
   -- an open monitor that keeps the invariant agrees with the tally
-  agrees : (o : Option Tally) (s : Machine) → InvIf m o s → s.stage ≡ Open → Known o (λ t. Agrees m s t.books)
+  agrees : (o : Option Tally) (s : Machine) → InvIf m o s → s.stage ≡ Open → IfSome o (λ t. Agrees m s t.books)
   agrees None s i e = tt
   agrees (Some t) s i e =
       let a : AtWork m t s.disk = subst (λ (z : Stage). At m t z s.disk) e i.at in
@@ -127,7 +100,7 @@ module _ (m : Meaning) (tests : StepTests m) (gives : StepGivesCodes m) where
         rows = shows_rows m (room_of s) t.books h i.good k;
         records = shows_records m (room_of s) t.books h i.good k;
         opening = shows_opening m (room_of s) t.books h i.good k;
-        valid = i.good.valid;
+        valid = i.good.items.valid;
         carried_out = i.good.carried_out;
         every = i.good.every;
         by_two = i.good.by_two;

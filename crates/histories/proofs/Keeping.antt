@@ -1,33 +1,27 @@
 -- What holds of every machine that a history leads to, against the tally: when open, its drive shows the books; when shut or
 -- dark, whatever may stand on its drive shows the books, or the books with the change in doubt.
 use Rattle.std.proofs.Common.{◌≡◌, ℕ, ◌+◌, true, eqb, ◌⊎◌, List, Some, None, Ok, Err, Option, Result, refl, sym, ap, ◌∙◌, subst, inl, inr}
-use Rattle.std.specs.Result.{MatchResult}
-use Rattle.std.proofs.lemmas.Bool.{cond-false, ne_eqb}
+use Rattle.std.proofs.lemmas.Bool.{cond-false}
 use Rattle.refusals.specs.declared.refusal.Refusal.{Refusal}
 use Rattle.refusals.specs.Numbers.{number}
 use Rattle.refusals.specs.Refused.{lost_at}
 use Rattle.books.specs.Meaning.{Meaning, StepGivesCodes}
-use Rattle.changes.specs.Plan.{Plan}
-use Rattle.drives.specs.Disk.{Disk, size}
+use Rattle.changes.specs.declared.change.Home.{Home}
 use Rattle.journals.specs.declared.place.Place.{Place}
 use Rattle.journals.specs.declared.place.Place.TheVariants as journal
 use Rattle.journals.specs.Outcomes.{changed, CutChange}
-use Rattle.journals.specs.Redo.{home}
-use Rattle.journals.specs.Standing.{Stands, Finishable, Ready}
-use Rattle.journals.proofs.Crash.{ends_finishable, ends_stands}
-use Rattle.journals.proofs.Staging.{ready_ends}
+use Rattle.journals.specs.State.{State, size, home_of, Stands, Finishable, Ready}
+use Rattle.journals.specs.Laws.{ready_finishable, ready_stands}
 use Rattle.records.specs.declared.record.Record.{Record}
-use Rattle.records.specs.Form.{Fits}
-use Rattle.layout.specs.Head.{fields_of_head}
 use Rattle.carrying.specs.Standing.{Standing}
 use Rattle.carrying.specs.Carried.{carried}
-use Rattle.image.specs.Home.{at}
-use Rattle.image.specs.Lawful.{lawful_size, room}
+use Rattle.image.specs.Home.{head_on}
+use Rattle.image.specs.Layout.{lawful_size, room}
 use Rattle.monitor.specs.declared.stage.Stage.{Stage}
 use Rattle.monitor.specs.declared.stage.Stage.TheVariants.{Shut, Open, Dark}
-use Rattle.monitor.specs.Calls.{power_place_of, Acknowledged, LostPower, Changes}
+use Rattle.monitor.specs.Calls.{power_place_of, Acknowledged, LostPower, Makes, Changes}
 use Rattle.monitor.specs.Changing.{change_for}
-use Rattle.monitor.specs.Machine.{Machine, machine, room_of}
+use Rattle.monitor.specs.Machine.{Machine, machine, room_of, Refuses}
 use Rattle.histories.specs.Law.{TookEffect}
 use Rattle.histories.specs.Tally.{Books, Tally, certain, in_doubt, made, made_to, by_answer}
 use Rattle.histories.proofs.Good.{Good, Made, Typed, good_made}
@@ -40,20 +34,20 @@ MayShow m most b None h = Shown m b h
 MayShow m most b (Some x) h = Shown m b h ⊎ ((u : Standing) × Made m most b x u × Shown m (made_to b x (Some u)) h)
 
 -- a drive without a monitor at work
-pub record Waiting (m : Meaning) (b : Books) (doubt : Option Record) (d : Disk) : Type 0 where
+pub record Waiting (m : Meaning) (b : Books) (doubt : Option Record) (d : State) : Type 0 where
   pub finishable : Finishable d
   pub shows : (h : List (List ℕ)) → Stands d h → MayShow m (room (size d)) b doubt h
 
 -- a drive under an open monitor
-pub record Working (m : Meaning) (b : Books) (d : Disk) : Type 0 where
+pub record Working (m : Meaning) (b : Books) (d : State) : Type 0 where
   pub ready : Ready d
-  pub shows : Shown m b (home d.blocks)
+  pub shows : Shown m b (home_of d)
 
-pub record AtWork (m : Meaning) (t : Tally) (d : Disk) : Type 0 where
+pub record AtWork (m : Meaning) (t : Tally) (d : State) : Type 0 where
   pub sure : t.doubt ≡ None
   pub working : Working m t.books d
 
-abbrev pub At : Meaning → Tally → Stage → Disk → Type 0
+abbrev pub At : Meaning → Tally → Stage → State → Type 0
 At m t Shut d = Waiting m t.books t.doubt d
 At m t Open d = AtWork m t d
 At m t Dark d = Waiting m t.books t.doubt d
@@ -64,20 +58,20 @@ pub record Inv (m : Meaning) (t : Tally) (s : Machine) : Type 0 where
   pub at : At m t s.stage s.disk
 
 -- an open monitor's drive could be left to itself
-pub working_waits : (m : Meaning) (b : Books) (d : Disk) → Working m b d → Waiting m b None d
+pub working_waits : (m : Meaning) (b : Books) (d : State) → Working m b d → Waiting m b None d
 working_waits m b d w =
     record {
-      finishable = ends_finishable (λ h. h ≡ home d.blocks) d (ready_ends d w.ready);
-      shows = λ h s. subst (λ g. Shown m b g) (sym (ends_stands (λ g. g ≡ home d.blocks) d (ready_ends d w.ready) h s)) w.shows;
+      finishable = ready_finishable d w.ready;
+      shows = λ h s. subst (λ g. Shown m b g) (sym (ready_stands d w.ready h s)) w.shows;
     }
 
-pub waits : (m : Meaning) (t : Tally) (st : Stage) (d : Disk) → At m t st d → Waiting m t.books t.doubt d
+pub waits : (m : Meaning) (t : Tally) (st : Stage) (d : State) → At m t st d → Waiting m t.books t.doubt d
 waits m t Shut d a = a
 waits m t Open d a = subst (λ o. Waiting m t.books o d) (sym a.sure) (working_waits m t.books d a.working)
 waits m t Dark d a = a
 
 -- the invariant at a stage and a drive as large
-pub inv_at : (m : Meaning) (t : Tally) (d : Disk) (u : Machine) (st : Stage) → lawful_size (size d) ≡ true → size u.disk ≡ size d → Good m (room (size d)) t.books → u.stage ≡ st → At m t st u.disk → Inv m t u
+pub inv_at : (m : Meaning) (t : Tally) (d : State) (u : Machine) (st : Stage) → lawful_size (size d) ≡ true → size u.disk ≡ size d → Good m (room (size d)) t.books → u.stage ≡ st → At m t st u.disk → Inv m t u
 inv_at m t d u st f e g p a =
     record {
       fits = ap lawful_size e ∙ f;
@@ -87,29 +81,41 @@ inv_at m t d u st f e g p a =
 
 -- a refusal that is not for lost power changes nothing in the tally
 pub not_lost : (m : Meaning) (t : Tally) (x : Record) (e : Refusal) → NotLost e → by_answer m t x (Err e) ≡ t
-not_lost m t x e n = cond-false (eqb (number e.reason) 7) _ _ (ne_eqb (number e.reason) 7 n)
+not_lost m t x e n = cond-false (eqb (number e.reason) 7) _ _ n
+
+-- a call that was refused, with a refusal that is nothing to the tally
+pub refused_keeps :
+    (m : Meaning) (t : Tally) (x : Record) (s u : Machine) (e : Refusal) (r : Result ℕ Refusal) → by_answer m t x (Err e) ≡ t
+    → Refuses s e r u → Inv m t s → Inv m (by_answer m t x r) u × TookEffect m t.books x r
+refused_keeps m t x s u e r nothing f i =
+    let same : by_answer m t x r ≡ t = ap (by_answer m t x) f.answer ∙ nothing in (
+      subst (λ (z : Machine). Inv m (by_answer m t x r) z) (sym f.same) (subst (λ (z : Tally). Inv m z s) (sym same) i),
+      subst (λ (z : Result ℕ Refusal). TookEffect m t.books x z) (sym f.answer) tt,
+    )
 
 -- what the test of a call that wants a change told, on an open monitor: no refusal for lost power; and what is wanted is the
 -- change of the record that was carried out
-pub record Wants (m : Meaning) (b : Books) (d : Disk) (x : Record) (w : Result Plan Refusal) : Type 0 where
+pub record Wants (m : Meaning) (b : Books) (d : State) (x : Record) (w : Result (List Home) Refusal) : Type 0 where
   pub clean : Clean w
-  pub carried_out : (p : Plan) → w ≡ Ok p → (u : Standing) × (carried m (room (size d)) b.standing x ≡ Ok u) × (p ≡ change_for (fields_of_head (at (home d.blocks) 7)) x u) × Typed x
-  pub fits : Fits x
+  pub carried_out : (p : List Home) → w ≡ Ok p → (u : Standing) × (carried m (room (size d)) b.standing x ≡ Ok u) × (p ≡ change_for (head_on (home_of d)) x u) × Typed x
 
-module _ (m : Meaning) (gives : StepGivesCodes m) (b : Books) (d : Disk) (x : Record) (fits : lawful_size (size d) ≡ true) (g : Good m (room (size d)) b) (k : Working m b d) where
+module _ (m : Meaning) (gives : StepGivesCodes m) (b : Books) (d : State) (x : Record) (fits : lawful_size (size d) ≡ true) (g : Good m (room (size d)) b) (k : Working m b d) where
   -- the change of a record that was carried out, and what it leaves
   module _
       (u : Standing) (carries : Made m (room (size d)) b x u)
-      (moves : (h : List (List ℕ)) → h ≡ changed (change_for (fields_of_head (at (home d.blocks) 7)) x u) d → Shown m (made_to b x (Some u)) h)
+      (moves : Shown m (made_to b x (Some u)) (changed (change_for (head_on (home_of d)) x u) d))
     where
-      abbrev q : Plan
-      q = change_for (fields_of_head (at (home d.blocks) 7)) x u
+      abbrev q : List Home
+      q = change_for (head_on (home_of d)) x u
 
       made_is : made m b x ≡ made_to b x (Some u)
       made_is = ap (made_to b x) carries.effects
 
+      shown_next : (h : List (List ℕ)) → h ≡ changed q d → Shown m (made_to b x (Some u)) h
+      shown_next h e = subst (λ z. Shown m (made_to b x (Some u)) z) (sym e) moves
+
       shown_made : (h : List (List ℕ)) → h ≡ changed q d → Shown m (made m b x) h
-      shown_made h e = subst (λ z. Shown m z h) (sym made_is) (moves h e)
+      shown_made h e = subst (λ z. Shown m z h) (sym made_is) (shown_next h e)
 
       good_after : Good m (room (size d)) (made m b x)
       good_after = subst (λ z. Good m (room (size d)) z) (sym made_is) carries.good
@@ -117,8 +123,8 @@ module _ (m : Meaning) (gives : StepGivesCodes m) (b : Books) (d : Disk) (x : Re
       acknowledged : (n : ℕ) (t : Machine) → Acknowledged q (machine Open d) n t → Inv m (by_answer m (certain b) x (Ok n)) t × TookEffect m b x (Ok n)
       acknowledged n t a = (
         inv_at m (certain (made m b x)) d t Open fits a.made.same_size good_after a.stage
-            (record { sure = refl; working = record { ready = a.made.ready; shows = shown_made (home t.disk.blocks) a.made.home_now } }),
-        (a.count ∙ ap (λ n. n + 1) (shows_count m (room (size d)) b (home d.blocks) g k.shows), (u, carries.effects)),
+            (record { sure = refl; working = record { ready = a.made.ready; shows = shown_made (home_of t.disk) a.made.home_now } }),
+        (a.count ∙ ap (λ n. n + 1) (shows_count m (room (size d)) b (home_of d) g k.shows), (u, carries.effects)),
       )
 
       -- by the place, what may stand
@@ -134,7 +140,7 @@ module _ (m : Meaning) (gives : StepGivesCodes m) (b : Books) (d : Disk) (x : Re
             finishable = o.finishable;
             shows = λ h w. elim (o.stands h w) [
               | inl e ↦ inl (subst (λ z. Shown m b z) (sym e) k.shows)
-              | inr e ↦ inr (u, subst (λ n. Made m (room n) b x u) (sym o.same_size) carries, moves h e)
+              | inr e ↦ inr (u, subst (λ n. Made m (room n) b x u) (sym o.same_size) carries, shown_next h e)
             ];
           })
       lost_by journal.Applying t s c =
@@ -145,23 +151,20 @@ module _ (m : Meaning) (gives : StepGivesCodes m) (b : Books) (d : Disk) (x : Re
       lost : (e : Refusal) (t : Machine) → LostPower q (machine Open d) e t → Inv m (by_answer m (certain b) x (Err e)) t
       lost e t l = subst (λ (z : Refusal). Inv m (by_answer m (certain b) x (Err z)) t) (sym l.answer) (lost_by l.place t l.stage l.cut)
 
-      changed_keeps : (r : Result ℕ Refusal) (t : Machine) → MatchResult r (λ n. Acknowledged q (machine Open d) n t) (λ e. LostPower q (machine Open d) e t) → Inv m (by_answer m (certain b) x r) t × TookEffect m b x r
+      changed_keeps : (r : Result ℕ Refusal) (t : Machine) → Makes q (machine Open d) r t → Inv m (by_answer m (certain b) x r) t × TookEffect m b x r
       changed_keeps (Ok n) t a = acknowledged n t a
       changed_keeps (Err e) t a = (lost e t a, tt)
 
   -- a call that wants a change, on an open monitor
   pub wants_keeps :
-      (w : Result Plan Refusal) (r : Result ℕ Refusal) (t : Machine) → Wants m b d x w
-      → (Typed x → (u : Standing) → Made m (room (size d)) b x u → (h : List (List ℕ)) → h ≡ changed (change_for (fields_of_head (at (home d.blocks) 7)) x u) d → Shown m (made_to b x (Some u)) h)
+      (w : Result (List Home) Refusal) (r : Result ℕ Refusal) (t : Machine) → Wants m b d x w
+      → (Typed x → (u : Standing) → Made m (room (size d)) b x u → Shown m (made_to b x (Some u)) (changed (change_for (head_on (home_of d)) x u) d))
       → Changes w (machine Open d) r t → Inv m (by_answer m (certain b) x r) t × TookEffect m b x r
   wants_keeps (Err e) r t v moves c =
-      let same : by_answer m (certain b) x r ≡ certain b = ap (by_answer m (certain b) x) c.answer ∙ not_lost m (certain b) x e (v.clean.clean e refl) in
-      let here : Inv m (certain b) (machine Open d) = record { fits = fits; good = g; at = record { sure = refl; working = k } } in (
-        subst (λ (z : Machine). Inv m (by_answer m (certain b) x r) z) (sym c.same) (subst (λ (z : Tally). Inv m z (machine Open d)) (sym same) here),
-        subst (λ (z : Result ℕ Refusal). TookEffect m b x z) (sym c.answer) tt,
-      )
+      refused_keeps m (certain b) x (machine Open d) t e r (not_lost m (certain b) x e v.clean.clean) c
+      (record { fits = fits; good = g; at = record { sure = refl; working = k } })
   wants_keeps (Ok p) r t v moves c =
       let done = v.carried_out p refl in
       let carries = good_made m (room (size d)) gives b x done.0 g done.3 done.1 in
-      let named = subst (λ (z : Plan). MatchResult r (λ n. Acknowledged z (machine Open d) n t) (λ e. LostPower z (machine Open d) e t)) done.2 c in
+      let named = subst (λ (z : List Home). Makes z (machine Open d) r t) done.2 c in
       changed_keeps done.0 carries (moves done.3 done.0 carries) r t named

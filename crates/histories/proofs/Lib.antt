@@ -1,8 +1,7 @@
-pub mod Putting
-pub mod Few
 pub mod Blocks
 pub mod Carrying
 pub mod Good
+pub mod Putting
 pub mod Showing
 pub mod Refusing
 pub mod Keeping

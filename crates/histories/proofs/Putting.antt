@@ -1,118 +1,83 @@
--- What stands at home after a change of the head and some blocks behind it.
-use Rattle.std.proofs.Common.{◌≡◌, ℕ, zero, suc, ◌+◌, ◌-◌, ◌<◌, ◌≤◌, List, [], ◌∷◌, length, get_or, sym, refl, ap, ◌∙◌, inl, inr, arith}
+-- What stands at home after a change: each of its homes holds its content, and every other block what it held.
+use Rattle.std.proofs.Common.{◌≡◌, ◌≢◌, ℕ, ◌<◌, ◌≤◌, List, [], ◌∷◌, ◌++◌, length, get_or, set, sym, refl, ◌∙◌, subst, arith}
 use Rattle.std.proofs.lemmas.List.{length-set, get_or-set_same, get_or-set_other}
-use Rattle.std.proofs.lemmas.Bool.{cases_eq}
-use Rattle.drives.specs.Disk.{Disk, size}
-use Rattle.changes.specs.Plan.{Plan, number, content, of_one, with_more}
-use Rattle.journals.specs.Redo.{home}
+use Rattle.changes.specs.declared.change.Home.{Home}
 use Rattle.journals.specs.Outcomes.{changed}
+use Rattle.journals.specs.Redo.{overlay, home}
+use Rattle.journals.specs.State.{State, size, home_of}
 use Rattle.image.specs.Home.{at}
-use Rattle.monitor.specs.Changing.{Put, with_puts}
-use Rattle.monitor.proofs.Changed.{Rise, changed_at, changed_outside}
+use Rattle.image.specs.Laws.{at_home}
 
--- past the last block
-abbrev pub no_put : Put
-no_put = (0, [])
+-- the numbers rise strictly, above one number and below another
+abbrev pub Rises : ℕ → ℕ → List Home → Type 0
+Rises low high [] = Unit {0}
+Rises low high (x ∷ xs) = (low < x.number) × (x.number < high) × Rises x.number high xs
 
-with_count : (xs : List Put) (p : Plan) → (with_puts p xs).count ≡ p.count + length xs
-with_count [] p = omega arith
-with_count (x ∷ xs) p = omega (arith, with_count xs (with_more p x.0 x.1))
+-- block k is none of them
+abbrev pub Misses : ℕ → List Home → Type 0
+Misses k [] = Unit {0}
+Misses k (x ∷ xs) = (x.number ≢ k) × Misses k xs
 
--- blocks behind leave those before as they were
-number_before : (xs : List Put) (p : Plan) (i : ℕ) → i < p.count → number (with_puts p xs) i ≡ number p i
-number_before [] p i h = refl
-number_before (x ∷ xs) p i h =
-    number_before xs (with_more p x.0 x.1) i (omega arith) ∙ get_or-set_other p.numbers p.count i x.0 0 (λ e. omega arith)
+-- each of them stands
+abbrev pub Stand : List (List ℕ) → List Home → Type 0
+Stand h [] = Unit {0}
+Stand h (x ∷ xs) = (at h x.number ≡ x.content) × Stand h xs
 
-content_before : (xs : List Put) (p : Plan) (i : ℕ) → i < p.count → content (with_puts p xs) i ≡ content p i
-content_before [] p i h = refl
-content_before (x ∷ xs) p i h =
-    content_before xs (with_more p x.0 x.1) i (omega arith) ∙ get_or-set_other p.contents p.count i x.1 [] (λ e. omega arith)
+misses_below : (xs : List Home) (low high k : ℕ) → k ≤ low → Rises low high xs → Misses k xs
+misses_below [] low high k l r = tt
+misses_below (x ∷ xs) low high k l r = ((λ e. omega (arith, r.0)), misses_below xs x.number high k (omega (arith, r.0)) r.2)
 
--- and are found behind them
-number_behind :
-    (xs : List Put) (p : Plan) (i : ℕ) → i < length xs → p.count + length xs ≤ length p.numbers
-    → number (with_puts p xs) (p.count + i) ≡ (get_or xs i no_put).0
-number_behind [] p i h l = absurd (omega arith)
-number_behind (x ∷ xs) p zero h l =
-    let here : p.count + 0 ≡ p.count = omega arith in
-    ap (number (with_puts (with_more p x.0 x.1) xs)) here
-    ∙ number_before xs (with_more p x.0 x.1) p.count (omega arith)
-    ∙ get_or-set_same p.numbers p.count x.0 0 (omega arith)
-number_behind (x ∷ xs) p (suc i) h l =
-    let up : p.count + suc i ≡ p.count + 1 + i = omega arith in
-    ap (number (with_puts (with_more p x.0 x.1) xs)) up
-    ∙ number_behind xs (with_more p x.0 x.1) i (omega arith) (omega (arith, length-set p.numbers p.count x.0))
+pub misses_above : (xs : List Home) (low high k : ℕ) → high ≤ k → Rises low high xs → Misses k xs
+misses_above [] low high k l r = tt
+misses_above (x ∷ xs) low high k l r = ((λ e. omega (arith, r.1)), misses_above xs x.number high k l r.2)
 
-content_behind :
-    (xs : List Put) (p : Plan) (i : ℕ) → i < length xs → p.count + length xs ≤ length p.contents
-    → content (with_puts p xs) (p.count + i) ≡ (get_or xs i no_put).1
-content_behind [] p i h l = absurd (omega arith)
-content_behind (x ∷ xs) p zero h l =
-    let here : p.count + 0 ≡ p.count = omega arith in
-    ap (content (with_puts (with_more p x.0 x.1) xs)) here
-    ∙ content_before xs (with_more p x.0 x.1) p.count (omega arith)
-    ∙ get_or-set_same p.contents p.count x.1 [] (omega arith)
-content_behind (x ∷ xs) p (suc i) h l =
-    let up : p.count + suc i ≡ p.count + 1 + i = omega arith in
-    ap (content (with_puts (with_more p x.0 x.1) xs)) up
-    ∙ content_behind xs (with_more p x.0 x.1) i (omega arith) (omega (arith, length-set p.contents p.count x.1))
+-- one home more behind the others
+rises_push : (xs : List Home) (y : Home) (low high n : ℕ) → Rises low high xs → low < y.number → high ≤ y.number → y.number < n → Rises low n (xs ++ (y ∷ []))
+rises_push [] y low high n r l h u = (l, u, tt)
+rises_push (x ∷ xs) y low high n r l h u = (r.0, omega (arith, r.1), rises_push xs y x.number high n r.2 (omega (arith, r.1)) h u)
 
--- the head X, and up to five blocks xs in rising number behind it, on the drive d
-module _ (head : List ℕ) (xs : List Put) (d : Disk) where
-  abbrev plan : Plan
-  plan = with_puts (of_one 7 head) xs
+misses_push : (xs : List Home) (y : Home) (k : ℕ) → Misses k xs → (y.number ≢ k) → Misses k (xs ++ (y ∷ []))
+misses_push [] y k m n = (n, tt)
+misses_push (x ∷ xs) y k m n = (m.0, misses_push xs y k m.1 n)
 
-  -- what stands at home then
-  abbrev pub after : List (List ℕ)
-  after = changed plan d
+stand_parts : (h : List (List ℕ)) (xs : List Home) (y : Home) → Stand h (xs ++ (y ∷ [])) → Stand h xs × (at h y.number ≡ y.content)
+stand_parts h [] y s = (tt, s.0)
+stand_parts h (x ∷ xs) y s =
+    let r = stand_parts h xs y s.1 in ((s.0, r.0), r.1)
 
-  module _
-      (few : length xs ≤ 5)
-      (rising : (i j : ℕ) → i < j → j < length xs → (get_or xs i no_put).0 < (get_or xs j no_put).0)
-      (above : (i : ℕ) → i < length xs → 7 < (get_or xs i no_put).0)
-      (fits : (i : ℕ) → i < length xs → (get_or xs i no_put).0 < size d)
-      (wide : 7 < size d)
-    where
-      counts : plan.count ≡ 1 + length xs
-      counts = with_count xs (of_one 7 head)
+elsewhere : (xs : List Home) (p : List (List ℕ)) (k : ℕ) → Misses k xs → get_or (overlay xs p) k [] ≡ get_or p k []
+elsewhere [] p k m = refl
+elsewhere (x ∷ xs) p k m = elsewhere xs (set p x.number x.content) k m.1 ∙ get_or-set_other p x.number k x.content [] (λ e. m.0 (sym e))
 
-      first : number plan 0 ≡ 7
-      first = number_before xs (of_one 7 head) 0 (omega arith)
+stands : (xs : List Home) (p : List (List ℕ)) (low : ℕ) → 6 ≤ low → Rises low (length p) xs → Stand (home (overlay xs p)) xs
+stands [] p low l r = tt
+stands (x ∷ xs) p low l r =
+    let q = set p x.number x.content in (
+      at_home (overlay xs q) x.number (omega (arith, r.0))
+          ∙ elsewhere xs q x.number (misses_below xs x.number (length p) x.number (omega arith) r.2)
+          ∙ get_or-set_same p x.number x.content [] r.1,
+      stands xs q x.number (omega (arith, r.0)) (subst (λ n. Rises x.number n xs) (sym (length-set p x.number x.content)) r.2),
+    )
 
-      behind : (i : ℕ) → i < length xs → number plan (1 + i) ≡ (get_or xs i no_put).0
-      behind i h = number_behind xs (of_one 7 head) i h (omega arith)
+-- what a change of the head, of some blocks from 8 to 31 and of one block more made of what stood at home
+pub record Moved (h i : List (List ℕ)) (head : Home) (xs : List Home) (last : Home) : Type 0 where
+  pub heads : at i 7 ≡ head.content
+  pub blocks : Stand i xs
+  pub enters : at i last.number ≡ last.content
+  pub others : (k : ℕ) → 7 < k → Misses k xs → (last.number ≢ k) → at i k ≡ at h k
 
-      -- a number past the head's, by its place
-      at_place : (i : ℕ) → 0 < i → i < plan.count → number plan i ≡ (get_or xs (i - 1) no_put).0
-      at_place i h l =
-          let back : 1 + (i - 1) ≡ i = omega arith in
-          sym (ap (number plan) back) ∙ behind (i - 1) (omega (arith, counts))
-
-      rise : Rise plan.count (number plan)
-      rise i j h l =
-          elim (cases_eq i 0) [
-            | inl z ↦ omega (arith, ap (number plan) z, first, at_place j (omega arith) l, above (j - 1) (omega (arith, counts)))
-            | inr n ↦ omega (arith, at_place i (omega arith) (omega arith), at_place j (omega arith) l, rising (i - 1) (j - 1) (omega arith) (omega (arith, counts)))
-          ]
-
-      pub head_at : at after 7 ≡ head
-      head_at =
-          ap (at after) (sym first)
-          ∙ changed_at plan d rise 0 (omega (arith, counts)) (omega (arith, first)) (omega (arith, first))
-          ∙ content_before xs (of_one 7 head) 0 (omega arith)
-
-      pub put_at : (i : ℕ) → i < length xs → at after (get_or xs i no_put).0 ≡ (get_or xs i no_put).1
-      put_at i h =
-          ap (at after) (sym (behind i h))
-          ∙ changed_at plan d rise (1 + i) (omega (arith, counts)) (omega (arith, behind i h, above i h)) (omega (arith, behind i h, fits i h))
-          ∙ content_behind xs (of_one 7 head) i h (omega arith)
-
-      -- every other block holds what it held
-      pub other_at : (k : ℕ) → 7 < k → ((i : ℕ) → i < length xs → (get_or xs i no_put).0 ≡ k → ⊥) → at after k ≡ at (home d.blocks) k
-      other_at k low none =
-          changed_outside plan d k (omega arith)
-          (λ i h e. elim (cases_eq i 0) [
-            | inl z ↦ omega (arith, ap (number plan) z, first)
-            | inr n ↦ none (i - 1) (omega (arith, counts)) (sym (at_place i (omega arith) h) ∙ e)
-          ])
+pub moved :
+    (d : State) (content : List ℕ) (xs : List Home) (last : Home) → Rises 7 32 xs → 32 ≤ last.number → last.number < size d
+    → (let head : Home = record { number = 7; content = content } in Moved (home_of d) (changed (head ∷ (xs ++ (last ∷ []))) d) head xs last)
+moved d content xs last r l u =
+    let head : Home = record { number = 7; content = content } in
+    let all : List Home = head ∷ (xs ++ (last ∷ [])) in
+    let s = stands all d.blocks 6 (omega arith) (omega arith, omega arith, rises_push xs last 7 32 (size d) r (omega arith) l u) in
+    let parts = stand_parts (changed all d) xs last s.1 in
+    record {
+      heads = s.0;
+      blocks = parts.0;
+      enters = parts.1;
+      others = λ k h m n. (at_home (overlay all d.blocks) k (omega arith)
+          ∙ elsewhere all d.blocks k ((λ e. omega arith), misses_push xs last k m n) ∙ sym (at_home d.blocks k (omega arith)));
+    }

@@ -1,88 +1,89 @@
 -- No test of a call refuses for lost power.
-use Rattle.std.proofs.Common.{◌≡◌, ℕ, Bool, true, false, cond, ◌&&◌, ◌||◌, eqb, leb, ltb, get_or, Some, None, Ok, Err, Option, Result, List, refl, subst, arith}
+use Rattle.std.proofs.Common.{◌≡◌, ℕ, Bool, true, false, ◌&&◌, ◌||◌, eqb, leb, ltb, get_or, Some, None, Ok, Err, Option, Result, IfErr, List, refl, not, if◌then◌else◌}
 use Rattle.refusals.specs.declared.reasons.Reason.{Reason}
-use Rattle.refusals.specs.declared.reasons.Reason.TheVariants as reason
+use Rattle.refusals.specs.declared.reasons.Reason.TheVariants.{EntererNotEntitled, CountersignerNotEntitled}
 use Rattle.refusals.specs.declared.refusal.Refusal.{Refusal}
 use Rattle.refusals.specs.declared.step_place.StepPlace.{StepPlace}
 use Rattle.refusals.specs.Numbers.{number}
-use Rattle.refusals.specs.Refused.{refused, and_then}
+use Rattle.refusals.specs.Refused.{refused, ◌>>=◌, ◌>>◌}
 use Rattle.books.specs.Meaning.{Meaning, has_procedure}
 use Rattle.rights.specs.Covers.{uncovered, free, is_free}
-use Rattle.rights.specs.declared.row.Role.TheVariants.{Enter, Countersign}
 use Rattle.rights.specs.declared.row.Row.{Row}
+use Rattle.records.specs.declared.record.Posting.{Posting}
 use Rattle.records.specs.declared.record.Record.{Record}
-use Rattle.carrying.specs.Standing.{Standing, with_row, with_codes, step_on}
-use Rattle.carrying.specs.Carried.{unless, after_step, posted}
-use Rattle.carrying.specs.Rows.{checked_row, if_room, filled, certified, struck}
+use Rattle.carrying.specs.declared.row_draft.RowDraft.{RowDraft}
+use Rattle.carrying.specs.Standing.{Standing, with_codes, step_on, draft_of}
+use Rattle.carrying.specs.Carried.{enters, countersigns, two_people, none_uncovered, codes_given, posted}
+use Rattle.carrying.specs.Rows.{checked_row, had_room, row_set, filled, certified, struck}
 use Rattle.monitor.specs.Changing.{wanted}
 
 -- the refusal is not for lost power
 abbrev pub NotLost : Refusal → Type 0
-NotLost e = number e.reason ≡ 7 → ⊥
+NotLost e = eqb (number e.reason) 7 ≡ false
 
 -- no refusal of this answer is
 pub record Clean {X : Type 0} (r : Result X Refusal) : Type 0 where
-  pub clean : (e : Refusal) → r ≡ Err e → NotLost e
-
--- an answer refuses for one reason
-pub same_err : {X : Type 0} (f e : Refusal) → ◌≡◌ {A = Result X Refusal} (Err f) (Err e) → f ≡ e
-same_err f e q = cc
+  pub clean : IfErr r NotLost
 
 pub clean_ok : {X : Type 0} (x : X) → Clean (Ok x)
-clean_ok x = record { clean = λ e q. absurd (let z : ◌≡◌ {A = ℕ} 0 1 = cc in omega arith) }
+clean_ok x = record { clean = tt }
 
-pub clean_refused : {X : Type 0} (why : Reason) (place : ℕ) → (number why ≡ 7 → ⊥) → Clean {X = X} (refused why place)
-clean_refused why place h = record { clean = λ e q. subst NotLost (same_err _ e q) h }
+pub clean_refused : {X : Type 0} (why : Reason) (place : ℕ) → eqb (number why) 7 ≡ false → Clean {X = X} (refused why place)
+clean_refused why place h = record { clean = h }
 
-pub clean_cond : {X : Type 0} (t : Bool) (a b : Result X Refusal) → Clean a → Clean b → Clean (cond t a b)
-clean_cond true a b p q = p
-clean_cond false a b p q = q
+-- tests one after another
+pub clean_if : {X : Type 0} (t : Bool) (why : Reason) (place : ℕ) (r : Result X Refusal) → eqb (number why) 7 ≡ false → Clean r → Clean (if t then refused why place else r)
+clean_if true why place r h c = clean_refused why place h
+clean_if false why place r h c = c
 
-pub clean_then : {X Y : Type 0} (r : Result X Refusal) (next : X → Result Y Refusal) → Clean r → ((x : X) → Clean (next x)) → Clean (and_then r next)
+pub clean_then : {X Y : Type 0} (r : Result X Refusal) (next : X → Result Y Refusal) → Clean r → ((x : X) → Clean (next x)) → Clean (r >>= next)
 clean_then (Ok x) next p q = q x
-clean_then (Err f) next p q = record { clean = λ e h. subst NotLost (same_err f e h) (p.clean f refl) }
+clean_then (Err f) next p q = record { clean = p.clean }
 
-pub clean_unless : {X : Type 0} (why : Reason) (o : Option ℕ) (r : Result X Refusal) → (number why ≡ 7 → ⊥) → Clean r → Clean (unless why o r)
-clean_unless why None r h q = q
-clean_unless why (Some i) r h q = clean_refused why i h
+pub clean_after : {X Y : Type 0} (r : Result X Refusal) (next : Result Y Refusal) → Clean r → Clean next → Clean (r >> next)
+clean_after (Ok x) next p q = q
+clean_after (Err f) next p q = record { clean = p.clean }
 
-clean_step : (m : Meaning) (s : Standing) (a b : ℕ) (r : Result (ℕ × ℕ) StepPlace) → Clean (after_step m s a b r)
-clean_step m s a b (Ok xy) = clean_cond (m.valid (with_codes s a b xy.0 xy.1).items) _ _ (clean_ok _) (clean_refused reason.InvalidAfter 0 (λ e. omega arith))
-clean_step m s a b (Err e) = clean_refused reason.StepRefused _ (λ q. omega arith)
+clean_uncovered : (why : Reason) (o : Option ℕ) → eqb (number why) 7 ≡ false → Clean (none_uncovered why o)
+clean_uncovered why None h = clean_ok tt
+clean_uncovered why (Some i) h = clean_refused why i h
 
-pub clean_posted : (m : Meaning) (room : ℕ) (s : Standing) (e c p a b n : ℕ) → Clean (posted m room s e c p a b n)
-clean_posted m room s e c p a b n =
-    clean_cond (eqb c e) _ _ (clean_refused reason.SamePerson c (λ q. omega arith))
-    (clean_unless reason.EntererNotEntitled (uncovered s.rows (record { user = e; procedure = p; role = Enter }) a b) _ (λ q. omega arith)
-    (clean_unless reason.CountersignerNotEntitled (uncovered s.rows (record { user = c; procedure = p; role = Countersign }) a b) _ (λ q. omega arith)
-    (clean_cond (ltb s.count room) _ _ (clean_step m s a b (step_on m s p a b n)) (clean_refused reason.AuditFull s.count (λ q. omega arith)))))
+clean_codes : (r : Result (ℕ × ℕ) StepPlace) → Clean (codes_given r)
+clean_codes (Ok codes) = clean_ok codes
+clean_codes (Err e) = clean_refused _ _ refl
 
-clean_room : (room : ℕ) (s t : Standing) → Clean (if_room room s t)
-clean_room room s t = clean_cond (ltb s.count room) _ _ (clean_ok t) (clean_refused reason.AuditFull s.count (λ q. omega arith))
+clean_room : (room : ℕ) (s : Standing) → Clean (had_room room s)
+clean_room room s = clean_if (not (ltb s.count room)) _ _ _ refl (clean_ok tt)
 
-clean_row : (place : ℕ) → Clean {X = Row} (refused reason.BadRow place)
-clean_row place = clean_refused reason.BadRow place (λ q. omega arith)
+pub clean_posted : (m : Meaning) (room : ℕ) (s : Standing) (p : Posting) → Clean (posted m room s p)
+clean_posted m room s p =
+    clean_after (two_people p) _ (clean_if (eqb p.countersigner p.enterer) _ _ _ refl (clean_ok tt))
+    (clean_after _ _ (clean_uncovered EntererNotEntitled (uncovered s.rows (enters p) p.a p.b) refl)
+    (clean_after _ _ (clean_uncovered CountersignerNotEntitled (uncovered s.rows (countersigns p) p.a p.b) refl)
+    (clean_after _ _ (clean_room room s)
+    (clean_then _ _ (clean_codes (step_on m s (draft_of p)))
+    (λ codes. clean_if (not (m.valid (with_codes s p.a p.b codes).items)) _ _ _ refl (clean_ok _))))))
 
-clean_checked : (m : Meaning) (k : ℕ) (w : Row) → Clean (checked_row m k w)
-clean_checked m k w =
-    clean_cond (leb k 31) _ _
-    (clean_cond (leb 1 w.user && leb w.user 15) _ _
-    (clean_cond (has_procedure m w.procedure) _ _
-    (clean_cond (eqb w.role 1 || eqb w.role 2) _ _
-    (clean_cond (eqb w.mask 0) _ _ (clean_row _) (clean_ok w))
-    (clean_row _)) (clean_row _)) (clean_row _)) (clean_row _)
+clean_set : (room : ℕ) (s : Standing) (k : ℕ) (w : Row) → Clean (row_set room s k w)
+clean_set room s k w = clean_after _ _ (clean_room room s) (clean_ok _)
 
-pub clean_certified : (m : Meaning) (room : ℕ) (s : Standing) (k : ℕ) (w : Row) → Clean (certified m room s k w)
-clean_certified m room s k w =
-    clean_then (checked_row m k w) (filled room s k) (clean_checked m k w)
-    (λ v. clean_cond (is_free (get_or s.rows k free)) _ _ (clean_room room s (with_row s k v)) (clean_refused reason.RowTaken k (λ q. omega arith)))
+clean_checked : (m : Meaning) (d : RowDraft) → Clean (checked_row m d)
+clean_checked m d =
+    clean_if (not (leb d.row 31)) _ _ _ refl
+    (clean_if (not (leb 1 d.user && leb d.user 15)) _ _ _ refl
+    (clean_if (not (has_procedure m d.procedure)) _ _ _ refl
+    (clean_if (not (eqb d.role 1 || eqb d.role 2)) _ _ _ refl
+    (clean_if (eqb d.mask 0) _ _ _ refl (clean_ok _)))))
+
+pub clean_certified : (m : Meaning) (room : ℕ) (s : Standing) (d : RowDraft) → Clean (certified m room s d)
+clean_certified m room s d =
+    clean_then (checked_row m d) (filled room s d.row) (clean_checked m d)
+    (λ w. clean_if (not (is_free (get_or s.rows d.row free))) _ _ _ refl (clean_set room s d.row w))
 
 pub clean_struck : (room : ℕ) (s : Standing) (k : ℕ) → Clean (struck room s k)
 clean_struck room s k =
-    clean_cond (leb k 31) _ _
-    (clean_cond (is_free (get_or s.rows k free)) _ _ (clean_refused reason.RowTaken k (λ q. omega arith)) (clean_room room s (with_row s k free)))
-    (clean_refused reason.BadRow _ (λ q. omega arith))
+    clean_if (not (leb k 31)) _ _ _ refl (clean_if (is_free (get_or s.rows k free)) _ _ _ refl (clean_set room s k free))
 
 pub clean_wanted : (h : List (List ℕ)) (x : Record) (r : Result Standing Refusal) → Clean r → Clean (wanted h x r)
 clean_wanted h x (Ok s) c = clean_ok _
-clean_wanted h x (Err f) c = record { clean = λ e q. subst NotLost (same_err f e q) (c.clean f refl) }
+clean_wanted h x (Err f) c = record { clean = c.clean }

@@ -3,7 +3,7 @@ use Rattle.std.specs.Prelude.{◌≡◌, ℕ, List, [], ◌∷◌, Result}
 use Rattle.refusals.specs.declared.refusal.Refusal.{Refusal}
 use Rattle.books.specs.Meaning.{Meaning}
 use Rattle.notes.specs.declared.numbers.Numbers.{Numbers}
-use Rattle.drives.specs.Disk.{Disk, May, size}
+use Rattle.journals.specs.State.{State, TakenOver}
 use Rattle.records.specs.declared.record.Record.{Record}
 use Rattle.carrying.specs.declared.row_draft.RowDraft.{RowDraft}
 use Rattle.monitor.specs.declared.entered.Entered.{Entered}
@@ -34,14 +34,10 @@ Happens m s (Struck word row r) t = Strikes s word row r t
 Happens m s (ItemSeen item r) t = (r ≡ item_seen s item) × (t ≡ s)
 Happens m s (RecordSeen number r) t = (r ≡ record_seen s number) × (t ≡ s)
 
--- a drive that another monitor takes over: as large, and nothing may stand on it that could not stand before
-pub record TakenOver (d e : Disk) : Type 0 where
-  pub same_size : size e ≡ size d
-  pub no_more : (i : ℕ) (x : List ℕ) → May e i x → May d i x
-
 -- what led to a monitor, the latest event first: it begins with a shut monitor over any drive, any call may follow, answered in
--- any way that its promise allows, and at any time another monitor, shut at first, may take the drive over
+-- any way that its promise allows, and at any time another monitor, shut at first, may take the drive over: one as large, on
+-- which nothing may stand that could not stand before
 pub data History (m : Meaning) : List Event → Machine → Type 0 where
-  begun : {d : Disk} → History m [] (machine Shut d)
+  begun : {d : State} → History m [] (machine Shut d)
   then : {es : List Event} {s t : Machine} {e : Event} → History m es s → Happens m s e t → History m (e ∷ es) t
-  again : {es : List Event} {s : Machine} {d : Disk} → History m es s → TakenOver s.disk d → History m es (machine Shut d)
+  again : {es : List Event} {s : Machine} {d : State} → History m es s → TakenOver s.disk d → History m es (machine Shut d)

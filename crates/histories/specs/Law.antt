@@ -1,18 +1,17 @@
 -- The law of every history.
-use Rattle.std.specs.Prelude.{◌≡◌, ◌≢◌, ℕ, ◌+◌, true, List, [], ◌∷◌, ◌++◌, map, length, replicate, Some, None, Ok, Err, Option, Result, slice_set}
+use Rattle.std.specs.Prelude.{◌≡◌, ◌≢◌, ℕ, ◌+◌, true, List, [], ◌∷◌, ◌++◌, map, length, replicate, Some, Ok, Err, Result, slice_set, IfSome}
 use Rattle.refusals.specs.declared.power_place.PowerPlace.TheVariants.{Starting}
 use Rattle.refusals.specs.declared.refusal.Refusal.{Refusal}
 use Rattle.refusals.specs.Refused.{lost_at}
 use Rattle.books.specs.Meaning.{Meaning, StepTests, StepGivesCodes}
 use Rattle.rights.specs.Covers.{covered, free}
 use Rattle.rights.specs.declared.row.Asked.{Asked}
-use Rattle.rights.specs.declared.row.Role.TheVariants.{Enter, Countersign}
 use Rattle.rights.specs.declared.row.Row.{Row}
 use Rattle.records.specs.declared.record.Posting.{Posting as PostingRecord}
 use Rattle.records.specs.declared.record.Record.{Record}
 use Rattle.records.specs.declared.record.Record.TheVariants.{Posting, Certification, Strike}
-use Rattle.carrying.specs.Standing.{Standing, opened, effect}
-use Rattle.carrying.specs.Carried.{carried_all}
+use Rattle.carrying.specs.Standing.{Standing, opened, row_of, effect}
+use Rattle.carrying.specs.Carried.{enters, countersigns, carried_all}
 use Rattle.image.specs.Home.{items_on, opening_on, rows_on, records_on}
 use Rattle.monitor.specs.declared.stage.Stage.TheVariants.{Open}
 use Rattle.monitor.specs.Calls.{posting, certification}
@@ -25,7 +24,7 @@ abbrev pub rows_after : List Row → List Record → List Row
 rows_after rows [] = rows
 rows_after rows (Posting p ∷ xs) = rows_after rows xs
 rows_after rows (Certification c ∷ xs) =
-    rows_after (slice_set rows c.row (record { user = c.user; procedure = c.procedure; role = c.role; mask = c.mask })) xs
+    rows_after (slice_set rows c.row (row_of c)) xs
 rows_after rows (Strike k ∷ xs) = rows_after (slice_set rows k free) xs
 
 -- some row covers a, and some row covers b
@@ -35,8 +34,8 @@ Entitled rows q a b = (covered rows q a ≡ true) × (covered rows q b ≡ true)
 -- a posting names two different users, each entitled in their role to that procedure on both items
 pub record TwoPeople (rows : List Row) (p : PostingRecord) : Type 0 where
   pub different : p.enterer ≢ p.countersigner
-  pub enters : Entitled rows (record { user = p.enterer; procedure = p.procedure; role = Enter }) p.a p.b
-  pub countersigns : Entitled rows (record { user = p.countersigner; procedure = p.procedure; role = Countersign }) p.a p.b
+  pub enterer : Entitled rows (enters p) p.a p.b
+  pub countersigner : Entitled rows (countersigns p) p.a p.b
 
 -- of every posting among the records, by the rows that the records before it give
 abbrev pub EachByTwo : List Record → Type 0
@@ -56,11 +55,6 @@ pub record Agrees (m : Meaning) (s : Machine) (b : Books) : Type 0 where
   pub carried_out : carried_all m (room_of s) (opened b.opening) b.records ≡ Ok b.standing
   pub every : b.standing.count ≡ length b.records
   pub by_two : EachByTwo b.records
-
--- where there is a tally
-abbrev pub Known : Option Tally → (Tally → Type 0) → Type 0
-Known None P = Unit {0}
-Known (Some t) P = P t
 
 -- an acknowledged change took effect, and its answer is the record count with it
 abbrev pub TookEffect : Meaning → Books → Record → Result ℕ Refusal → Type 0
@@ -85,11 +79,11 @@ Owed m t (RecordSeen number r) = Unit {0}
 
 abbrev pub AllOwed : Meaning → List Event → Type 0
 AllOwed m [] = Unit {0}
-AllOwed m (e ∷ es) = Known (tally m es) (λ t. Owed m t e) × AllOwed m es
+AllOwed m (e ∷ es) = IfSome (tally m es) (λ t. Owed m t e) × AllOwed m es
 
 -- the law: whenever the monitor is open and there is a tally, they agree; and each event gave the tally what it owed
 pub record Law (m : Meaning) (es : List Event) (s : Machine) : Type 0 where
-  pub agrees : s.stage ≡ Open → Known (tally m es) (λ t. Agrees m s t.books)
+  pub agrees : s.stage ≡ Open → IfSome (tally m es) (λ t. Agrees m s t.books)
   pub owed : AllOwed m es
 
 -- every history obeys the law, for every book whose step makes its tests in their order and gives codes of 64 bits

@@ -1,5 +1,6 @@
 -- The tally: what the books should hold, by the calls' arguments and answers alone.
-use Rattle.std.specs.Prelude.{ℕ, ◌+◌, cond, List, [], ◌∷◌, ◌++◌, length, Some, None, Ok, Err, Option, Result, ◌==◌}
+use Rattle.std.specs.Prelude.{ℕ, ◌+◌, List, [], ◌∷◌, ◌++◌, length, Some, None, Ok, Err, Option, Result, ◌==◌, if◌then◌else◌}
+use Rattle.std.specs.Option.{option_map}
 use Rattle.refusals.specs.declared.power_place.PowerPlace.TheVariants as power
 use Rattle.refusals.specs.declared.refusal.Refusal.{Refusal}
 use Rattle.refusals.specs.Numbers.{number}
@@ -44,19 +45,20 @@ in_doubt b x = record { books = b; doubt = Some x }
 -- a change that lost power: at place 3 it is made at once, at place 2 it is in doubt, else it is nothing
 abbrev pub cut_at : Meaning → Tally → Record → ℕ → Tally
 cut_at m t x place =
-    cond (place == power_place_number power.Applying) (record { books = made m t.books x; doubt = t.doubt })
-    (cond (place == power_place_number power.Committing) (in_doubt t.books x) t)
+    if place == power_place_number power.Applying then record t { books = made m t.books x }
+    else if place == power_place_number power.Committing then in_doubt t.books x
+    else t
 
 -- a change by its answer: acknowledged, it is made at once; refused, it is nothing, but for lost power
 abbrev pub by_answer : Meaning → Tally → Record → Result ℕ Refusal → Tally
-by_answer m t x (Ok n) = record { books = made m t.books x; doubt = t.doubt }
-by_answer m t x (Err e) = cond (number e.reason == 7) (cut_at m t x e.place) t
+by_answer m t x (Ok n) = record t { books = made m t.books x }
+by_answer m t x (Err e) = if number e.reason == 7 then cut_at m t x e.place else t
 
 -- the change in doubt is made at the next accepted attach if that answers one record more than the tally holds, and
 -- otherwise never
 abbrev pub settled : Meaning → Books → ℕ → Option Record → Tally
 settled m b n None = certain b
-settled m b n (Some x) = cond (n == length b.records + 1) (certain (made m b x)) (certain b)
+settled m b n (Some x) = if n == length b.records + 1 then certain (made m b x) else certain b
 
 abbrev pub attached : Meaning → Tally → Result ℕ Refusal → Tally
 attached m t (Ok n) = settled m t.books n t.doubt
@@ -65,7 +67,7 @@ attached m t (Err e) = t
 -- format, from whatever tally there was: accepted, it begins anew; cut, there is none; else as it was
 abbrev pub formatted : List ℕ → Result ℕ Refusal → Option Tally → Option Tally
 formatted opening (Ok n) o = Some (certain (began opening))
-formatted opening (Err e) o = cond (number e.reason == 7) None o
+formatted opening (Err e) o = if number e.reason == 7 then None else o
 
 -- the tally after one event more
 abbrev pub fed : Meaning → Tally → Event → Tally
@@ -79,8 +81,7 @@ fed m t (ItemSeen item r) = t
 fed m t (RecordSeen number r) = t
 
 abbrev pub fed_if : Meaning → Option Tally → Event → Option Tally
-fed_if m None e = None
-fed_if m (Some t) e = Some (fed m t e)
+fed_if m o e = option_map (λ t. fed m t e) o
 
 abbrev pub feed : Meaning → Option Tally → Event → Option Tally
 feed m o (Formatted house roll opening r) = formatted opening r o

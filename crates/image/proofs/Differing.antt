@@ -2,6 +2,7 @@
 use Rattle.std.proofs.Common.{◌≡◌, ℕ, suc, ◌+◌, Bool, true, false, cond, not, ltb, List, [], ◌∷◌, length, Some, None, Option, refl, sym, ap, ◌∙◌, inl, inr, arith}
 use Rattle.std.specs.List.{zip, position, position_or_len}
 use Rattle.std.specs.Option.{option_map}
+use Rattle.std.specs.Prelude.{if◌then◌else◌}
 use Rattle.std.specs.Str.{bytes_eq}
 use Rattle.std.proofs.lemmas.Bool.{cases_lt, cond-true, cond-false, lt-ltb, le-ltb}
 use Rattle.image.specs.Verdict.{differing}
@@ -22,7 +23,7 @@ apart p = not (bytes_eq p.0 p.1)
 -- the next two, by how their test comes out, and the rest
 next_two :
     (k m n : ℕ) (t : Bool) (rest : Option ℕ) → rest ≡ numbered (suc k) m n
-    → cond t rest (Some k) ≡ numbered k (cond (not (not t)) (1 + m) 0) (suc n)
+    → (if not t then Some k else rest) ≡ numbered k (cond (not (not t)) (1 + m) 0) (suc n)
 next_two k m n true rest e = e ∙ sym (further k m n) ∙ ap (λ z. numbered k z (suc n)) {x = suc m} (omega arith)
 next_two k m n false rest e = sym (cond-true _ _ _ (lt-ltb 0 (suc n) (omega arith)) ∙ ap Some {y = k} (omega arith))
 

@@ -1,47 +1,65 @@
--- What stands on a drive, by block: h is the drive's home blocks, which begin with block 7.
-use Rattle.std.specs.Prelude.{ℕ, ◌+◌, ◌-◌, ◌*◌, ◌/◌, ◌%◌, List, [], map, take, drop, Option, slice_index_or}
+-- What stands on a drive, by block: h is the drive's home blocks, which begin with the head.
+use Rattle.std.specs.Prelude.{ℕ, ◌-◌, ◌*◌, ◌%◌, List, [], map, take, drop, Option, slice_index_or}
 use Rattle.std.specs.List.{range_with_len, flat_map}
 use Rattle.rights.specs.declared.row.Row.{Row}
 use Rattle.records.specs.declared.record.Record.{Record}
 use Rattle.records.specs.Form.{decoded}
+use Rattle.layout.specs.declared.head.Head.{Head}
 use Rattle.layout.specs.Head.{fields_of_head}
 use Rattle.layout.specs.Codes.{codes_form, codes_of}
 use Rattle.layout.specs.Rows.{rows_form, rows_of}
 use Rattle.layout.specs.Roll.{word_in}
+use Rattle.carrying.specs.Standing.{Standing}
+use Rattle.image.specs.declared.part.Part.{Part}
+use Rattle.image.specs.declared.part.Part.TheVariants.{Items, Opening, Rows}
+use Rattle.image.specs.Layout.{head_block, first_block, roll_block, record_block}
 
 -- block k
 abbrev pub at : List (List ℕ) → ℕ → List ℕ
-at h k = slice_index_or h (k - 7) []
+at h k = slice_index_or h (k - head_block) []
 
 -- n blocks from k on
 abbrev pub blocks_at : List (List ℕ) → ℕ → ℕ → List (List ℕ)
 blocks_at h k n = map (at h) (range_with_len k n)
 
--- block 7 is the head
+-- the eight blocks of a part
+abbrev pub part_on : List (List ℕ) → Part → List (List ℕ)
+part_on h part = blocks_at h (first_block part) 8
+
+-- the head, by its block's fields
+abbrev pub head_on : List (List ℕ) → Head
+head_on h = fields_of_head (at h head_block)
+
 abbrev pub house_on : List (List ℕ) → ℕ
-house_on h = (fields_of_head (at h 7)).house
+house_on h = (head_on h).house
 
 abbrev pub count_on : List (List ℕ) → ℕ
-count_on h = (fields_of_head (at h 7)).count
+count_on h = (head_on h).count
 
--- blocks 8 to 15 are the items, 16 to 23 the opening items
+-- items, opening items and rows
 abbrev pub items_on : List (List ℕ) → List ℕ
-items_on h = flat_map codes_of (blocks_at h 8 8)
+items_on h = flat_map codes_of (part_on h Items)
 
 abbrev pub opening_on : List (List ℕ) → List ℕ
-opening_on h = flat_map codes_of (blocks_at h 16 8)
+opening_on h = flat_map codes_of (part_on h Opening)
 
--- blocks 24 to 31 are the rows
 abbrev pub rows_on : List (List ℕ) → List Row
-rows_on h = flat_map rows_of (blocks_at h 24 8)
+rows_on h = flat_map rows_of (part_on h Rows)
 
--- blocks 32 and 33 are the roll: the word of a user
+-- what the books hold by the blocks of items and rows, where so many records stand; and as the head counts them
+abbrev pub standing_with : List (List ℕ) → ℕ → Standing
+standing_with h count = record { items = items_on h; rows = rows_on h; count = count }
+
+abbrev pub standing_on : List (List ℕ) → Standing
+standing_on h = standing_with h (count_on h)
+
+-- the word of a user on the roll
 abbrev pub word_on : List (List ℕ) → ℕ → List ℕ
-word_on h u = word_in (at h (32 + u / 8)) (u % 8)
+word_on h u = word_in (at h (roll_block u)) (u % 8)
 
--- block 33 + k is record k, from 1 on; none where the block is not a record's exact form with that number
+-- record k, from 1 on; none where its block is not a record's exact form with that number
 abbrev pub record_on : List (List ℕ) → ℕ → Option Record
-record_on h k = decoded k (at h (33 + k))
+record_on h k = decoded k (at h (record_block k))
 
 -- the records up to the head's count
 abbrev pub records_on : List (List ℕ) → List (Option Record)

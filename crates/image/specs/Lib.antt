@@ -1,4 +1,6 @@
+pub mod Layout
 pub mod Home
-pub mod Parts
 pub mod Lawful
 pub mod Verdict
+pub mod Reading
+pub mod Laws

@@ -1,19 +1,23 @@
 -- The verdict on an image: how many records stand, or the first refusal that it earns.
-use Rattle.std.specs.Prelude.{◌≡◌, ℕ, zero, suc, cond, ◌&&◌, List, [], ◌∷◌, length, Some, None, Ok, Err, Option, Result, ◌==◌, nat_le, slice_index_or}
+use Rattle.std.specs.Prelude.{◌≡◌, ℕ, zero, suc, not, ◌&&◌, List, [], ◌∷◌, length, Some, None, Ok, Err, Option, Result, ◌==◌, nat_le, if◌then◌else◌}
+use Rattle.std.specs.Option.{option_or}
 use Rattle.std.specs.Str.{bytes_eq}
 use Rattle.refusals.specs.declared.reasons.Reason.TheVariants.{BadSize, InvalidOpening, BadCommitBlock, BadHead, BadRecord, BlockDiffers}
 use Rattle.refusals.specs.declared.refusal.Refusal.{Refusal}
-use Rattle.refusals.specs.Refused.{refused, and_then}
+use Rattle.refusals.specs.Refused.{refused, ◌>>=◌}
 use Rattle.books.specs.Meaning.{Meaning}
 use Rattle.changes.specs.Commit.{lawful_commit}
-use Rattle.journals.specs.Redo.{finished, home}
+use Rattle.journals.specs.Redo.{commit_block, finished, home}
 use Rattle.records.specs.declared.record.Record.{Record}
 use Rattle.layout.specs.declared.head.Head.{Head}
 use Rattle.layout.specs.Head.{head_of}
 use Rattle.carrying.specs.Standing.{Standing, opened}
 use Rattle.carrying.specs.Carried.{carried}
-use Rattle.image.specs.Home.{at, blocks_at, opening_on, record_on, blocks_of_codes, blocks_of_rows}
-use Rattle.image.specs.Lawful.{lawful_size, room, LawfulImage}
+use Rattle.image.specs.declared.part.Part.{Part}
+use Rattle.image.specs.declared.part.Part.TheVariants.{Items, Rows}
+use Rattle.image.specs.Home.{at, part_on, opening_on, record_on, blocks_of_codes, blocks_of_rows}
+use Rattle.image.specs.Layout.{head_block, first_block, lawful_size, room}
+use Rattle.image.specs.Lawful.{LawfulImage}
 
 -- record k, in exact form (21)
 abbrev pub exact_record : ℕ → Option Record → Result Record Refusal
@@ -25,29 +29,34 @@ abbrev pub at_record : ℕ → Result Standing Refusal → Result Standing Refus
 at_record k (Ok s) = Ok s
 at_record k (Err e) = refused BadRecord k
 
--- record k is in exact form, and is carried out
+-- record k, if one was found in exact form, is carried out
+abbrev pub replayed_record : Meaning → ℕ → ℕ → Option Record → Standing → Result Standing Refusal
+replayed_record m most k found s = do
+  x ← exact_record k found
+  at_record k (carried m most s x)
+
 abbrev pub replayed_one : Meaning → ℕ → List (List ℕ) → ℕ → Standing → Result Standing Refusal
-replayed_one m most h k s = and_then (exact_record k (record_on h k)) (λ x. at_record k (carried m most s x))
+replayed_one m most h k s = replayed_record m most k (record_on h k) s
 
 -- n records from number k on
 abbrev pub replayed : Meaning → ℕ → List (List ℕ) → ℕ → ℕ → Standing → Result Standing Refusal
 replayed m most h zero k s = Ok s
-replayed m most h (suc n) k s = and_then (replayed_one m most h k s) (replayed m most h n (suc k))
+replayed m most h (suc n) k s = replayed_one m most h k s >>= replayed m most h n (suc k)
 
 -- the number of the first block that is not the one expected; the blocks found are numbered from k on
 abbrev pub differing : ℕ → List (List ℕ) → List (List ℕ) → Option ℕ
 differing k [] xs = None
 differing k (b ∷ bs) [] = None
-differing k (b ∷ bs) (x ∷ xs) = cond (bytes_eq b x) (differing (suc k) bs xs) (Some k)
+differing k (b ∷ bs) (x ∷ xs) = if not (bytes_eq b x) then Some k else differing (suc k) bs xs
 
-abbrev pub first_of : Option ℕ → Option ℕ → Option ℕ
-first_of (Some k) o = Some k
-first_of None o = o
+-- the same of a part
+abbrev pub part_differing : List (List ℕ) → Part → List (List ℕ) → Option ℕ
+part_differing h part expected = differing (first_block part) (part_on h part) expected
 
 -- the first item or row block that is not what stands
 abbrev pub differing_block : List (List ℕ) → Standing → Option ℕ
 differing_block h s =
-    first_of (differing 8 (blocks_at h 8 8) (blocks_of_codes s.items)) (differing 24 (blocks_at h 24 8) (blocks_of_rows s.rows))
+    option_or (part_differing h Items (blocks_of_codes s.items)) (part_differing h Rows (blocks_of_rows s.rows))
 
 -- a block differs (22)
 abbrev pub compared : ℕ → Option ℕ → Result ℕ Refusal
@@ -56,29 +65,28 @@ compared n (Some k) = refused BlockDiffers k
 
 -- a head, of this book, with a count for which there is room (20)
 abbrev pub checked_head : Meaning → ℕ → Option Head → Result Head Refusal
-checked_head m most None = refused BadHead 7
-checked_head m most (Some d) = cond (d.kind == m.kind && nat_le d.count most) (Ok d) (refused BadHead 7)
+checked_head m most None = refused BadHead head_block
+checked_head m most (Some d) =
+    if not (d.kind == m.kind && nat_le d.count most) then refused BadHead head_block else Ok d
 
 -- a valid opening (18)
 abbrev pub checked_opening : Meaning → List ℕ → Result Standing Refusal
-checked_opening m codes = cond (m.valid codes) (Ok (opened codes)) (refused InvalidOpening 0)
+checked_opening m codes = if not (m.valid codes) then refused InvalidOpening 0 else Ok (opened codes)
 
 -- the home blocks, on a drive with room for so many records: head, opening, records, items and rows
 abbrev pub judged : Meaning → ℕ → List (List ℕ) → Result ℕ Refusal
-judged m most h =
-    and_then (checked_head m most (head_of (at h 7))) (λ d.
-    and_then (checked_opening m (opening_on h)) (λ s.
-    and_then (replayed m most h d.count 1 s) (λ t.
-    compared d.count (differing_block h t))))
+judged m most h = do
+  d ← checked_head m most (head_of (at h head_block))
+  s ← checked_opening m (opening_on h)
+  t ← replayed m most h d.count 1 s
+  compared d.count (differing_block h t)
 
 -- the size (17), the commit block (19), and then what finishing leaves
 abbrev pub verdict : Meaning → List (List ℕ) → Result ℕ Refusal
 verdict m p =
-    cond (lawful_size (length p))
-    (cond (lawful_commit (length p) (slice_index_or p 0 []))
-    (judged m (room (length p)) (home (finished p)))
-    (refused BadCommitBlock 0))
-    (refused BadSize (length p))
+    if not (lawful_size (length p)) then refused BadSize (length p)
+    else if not (lawful_commit (length p) (commit_block p)) then refused BadCommitBlock 0
+    else judged m (room (length p)) (home (finished p))
 
 -- the verdict accepts exactly the lawful images, and answers how many records stand
 pub record AcceptsExactlyLawful : Type 0 where

@@ -1,5 +1,5 @@
 ghost use Rattle.std.specs.Prelude.{◌≡◌, ◌≤◌};
-ghost use Rattle.image.specs.Parts.{first_block};
+ghost use Rattle.image.specs.Layout.{first_block};
 
 /// A part of the image that fills eight blocks, by the number of its first.
 #[derive(Clone, Copy, PartialEq, Eq, Debug)]

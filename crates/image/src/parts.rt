@@ -3,7 +3,7 @@ ghost use Rattle.std.specs.List.{flat_map};
 ghost use Rattle.layout.specs.Codes.{codes_of};
 ghost use Rattle.layout.specs.Rows.{rows_of};
 ghost use Rattle.image.specs.Home.{blocks_of_codes, blocks_of_rows};
-ghost use Rattle.image.specs.Parts.{first_block};
+ghost use Rattle.image.specs.Layout.{first_block};
 ghost use Rattle.image.specs.Verdict.{differing};
 
 use crate::part::Part;

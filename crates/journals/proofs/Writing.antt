@@ -1,48 +1,75 @@
 -- One write more in a run of writes.
-use Rattle.std.proofs.Common.{◌≡◌, ℕ, ◌+◌, ◌<◌, List, length, set, ap, ◌∙◌, inl, inr, add-one, arith}
-use Rattle.std.proofs.lemmas.List.{length-set}
+use Rattle.std.proofs.Common.{◌≡◌, ℕ, ◌+◌, ◌<◌, ◌≤◌, Ok, List, [], ◌∷◌, ◌++◌, Contains, length, get_or, set, take, drop, sym, ap, ◌∙◌, subst, inl, inr, arith}
+use Rattle.std.proofs.lemmas.List.{length-set, take_more, take_all, take-append-drop}
+use Rattle.std.proofs.lemmas.List.Elements.{Contains-append_left, Contains-push, Contains-get_or}
 use Rattle.drives.specs.Disk.{Disk, size, GainsOnly}
-use Rattle.drives.specs.Calls.{Written, CutWriting}
-use Rattle.journals.specs.Steps.{Gains, Wrote, CutWrote, Puts, Sets}
+use Rattle.std.proofs.lemmas.Result.{MatchResult-weaker}
+use Rattle.drives.specs.Calls.{Answer, Written, CutWriting, Flushes}
+use Rattle.changes.specs.Commit.{zeros}
+use Rattle.changes.specs.declared.change.Home.{Home}
+use Rattle.changes.specs.Homes.{home_at}
 use Rattle.journals.specs.Redo.{overlay}
-use Rattle.journals.proofs.Overlay.{overlay_length}
+use Rattle.journals.specs.Steps.{Gains, Wrote, CutWrote, Stored, StoredCommit, Stores, StoresCommit, Applies, in_flush, in_clearing}
+use Rattle.journals.specs.Laws.Overlay.{overlay_length, overlay_push}
 
--- the run so far, and the write of a content to a block, which are its next
-module _ (n b : ℕ) (x : List ℕ) (ns : ℕ → ℕ) (xs : ℕ → List ℕ) (d e f : Disk) (at : b ≡ ns n) (what : x ≡ xs n) (u : Wrote n ns xs d e) where
-  -- the sets gain what they gained before, and the new content
-  gains_more : (m : ℕ) → n < m → GainsOnly e b x f → Gains m ns xs d f
-  gains_more m l v k y h =
-      elim (v k y h) [
-        | inl a ↦ elim (u.gains k y a) [ inl c ↦ inl c | inr w ↦ inr (w.0, omega (arith, w.1), w.2, w.3) ]
-        | inr w ↦ inr (n, l, w.0 ∙ at, w.1 ∙ what)
+-- writes leave the size as it was, and so do their flush, and a commit block and its flush
+pub wrote_size : (homes : List Home) (d e : Disk) → Wrote homes d e → size e ≡ size d
+wrote_size homes d e u = ap length u.blocks ∙ overlay_length homes d.blocks
+
+pub stored_size : (homes : List Home) (d e : Disk) → Stored homes d e → size e ≡ size d
+stored_size homes d e s = ap length s.flushes.blocks ∙ wrote_size homes d s.written s.writes
+
+pub commit_size : (c : List ℕ) (d e : Disk) → StoredCommit c d e → size e ≡ size d
+commit_size c d e s = ap length (s.flushes.blocks ∙ s.writes.blocks) ∙ length-set d.blocks 0 c
+
+-- the homes so far, and the write of a content to a block, which is the next home
+module _ (homes : List Home) (i : ℕ) (z : Home) (b : ℕ) (x : List ℕ) (here : i < length homes) (at : get_or homes i z ≡ home_at b x) (d e f : Disk) (u : Wrote (take i homes) d e) where
+  more : take (i + 1) homes ≡ take i homes ++ home_at b x ∷ []
+  more = take_more homes i z here ∙ ap (λ h. take i homes ++ h ∷ []) at
+
+  -- the lists gain what they gained before, and the new content
+  gains_more : (into : List Home) → ((y : Home) → Contains (take i homes) y → Contains into y) → Contains into (home_at b x) → GainsOnly e b x f → Gains into d f
+  gains_more into old new v k y l h =
+      elim (v k y (omega (arith, wrote_size (take i homes) d e u)) h) [
+        | inl a ↦ elim (u.gains k y l a) [ inl c ↦ inl c | inr w ↦ inr (old (home_at k y) w) ]
+        | inr w ↦ (let same : home_at b x ≡ home_at k y = λ j. home_at (sym w.0 j) (sym w.1 j) in inr (subst (Contains into) same new))
       ]
 
   -- the write is done
-  pub wrote_more : Written e b x f → Wrote (n + 1) ns xs d f
+  pub wrote_more : Written e b x f → Wrote (take (i + 1) homes) d f
   wrote_more v =
       record {
         on = v.on;
-        blocks = rw add-one (v.blocks ∙ ap (λ p. set p b x) u.blocks ∙ (λ i. set (overlay n ns xs d.blocks) (at i) (what i)));
-        gains = gains_more (n + 1) (omega arith) v.gains;
+        blocks = v.blocks ∙ ap (λ p. set p b x) u.blocks ∙ sym (ap (λ l. overlay l d.blocks) more ∙ overlay_push (take i homes) (home_at b x) d.blocks);
+        gains = gains_more (take (i + 1) homes)
+            (λ y w. subst (λ l. Contains l y) (sym more) (Contains-append_left (take i homes) (home_at b x ∷ []) y w))
+            (subst (λ l. Contains l (home_at b x)) (sym more) (Contains-push (take i homes) (home_at b x)))
+            v.gains;
       }
 
   -- it loses power
-  pub wrote_cut : (m : ℕ) → n < m → CutWriting e b x f → CutWrote m ns xs d f
-  wrote_cut m l v =
+  pub wrote_cut : CutWriting e b x f → CutWrote homes d f
+  wrote_cut v =
       record {
         off = v.off;
-        same_size = v.same_size ∙ ap length u.blocks ∙ overlay_length n ns xs d.blocks;
-        gains = gains_more m l v.gains;
+        same_size = v.same_size ∙ wrote_size (take i homes) d e u;
+        gains = gains_more homes
+            (λ y w. subst (λ l. Contains l y) (take-append-drop i homes) (Contains-append_left (take i homes) (drop i homes) y w))
+            (subst (Contains homes) at (Contains-get_or homes i z here))
+            v.gains;
       }
 
--- a block of the drive is one of it after the writes
-pub wrote_within : (n b : ℕ) (ns : ℕ → ℕ) (xs : ℕ → List ℕ) (d e : Disk) → Wrote n ns xs d e → b < size d → b < size e
-wrote_within n b ns xs d e u l = omega (arith, ap length u.blocks ∙ overlay_length n ns xs d.blocks)
+-- all of them
+pub wrote_all : (homes : List Home) (i : ℕ) (d e : Disk) → length homes ≤ i → Wrote (take i homes) d e → Wrote homes d e
+wrote_all homes i d e l u = subst (λ hs. Wrote hs d e) (take_all i homes l) u
 
--- a run of writes and its flush leave the size as it was
-pub puts_size : (n : ℕ) (ns : ℕ → ℕ) (xs : ℕ → List ℕ) (d e : Disk) → Puts n ns xs d e → size e ≡ size d
-puts_size n ns xs d e (m, u, f) = ap length (f.blocks ∙ u.blocks) ∙ overlay_length n ns xs d.blocks
+-- the flush after them
+pub stores : {homes : List Home} {d m e : Disk} {r : Answer} → Wrote homes d m → Flushes m r e → Stores homes d r e
+stores {homes} {d} {m} {e} {r} u f =
+    MatchResult-weaker r (f.met u.on) (λ _ g. record { written = m; writes = u; flushes = g }) (λ _ g. in_flush u g.1)
 
--- and so do a commit block and its flush
-pub sets_size : (c : List ℕ) (d e : Disk) → Sets c d e → size e ≡ size d
-sets_size c d e (m, u, f) = ap length (f.blocks ∙ u.blocks) ∙ length-set d.blocks 0 c
+-- and the commit block of zeros after that
+pub applies : {homes : List Home} {d m h : Disk} (e : Disk) {x : Unit {0}} (r : Answer) → Wrote homes d m → Flushes m (Ok x) h → StoresCommit zeros h r e → Applies homes d r e
+applies {homes} {d} {m} {h} e {x} r u f c =
+    let s : Stored homes d h = record { written = m; writes = u; flushes = f.met u.on } in
+    MatchResult-weaker r c (λ _ k. record { home = h; stores = s; clears = k }) (λ _ k. in_clearing s k)

@@ -1,5 +1,6 @@
 pub mod Redo
-pub mod Standing
+pub mod State
 pub mod Steps
 pub mod Outcomes
 pub mod Laying
+pub mod Laws

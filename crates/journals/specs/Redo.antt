@@ -1,19 +1,43 @@
 -- The redo journal over blocks: block 0 is the commit block, 1 to 6 are the slots, the rest are home blocks.
-use Rattle.std.specs.Prelude.{ℕ, zero, suc, ◌+◌, List, [], drop, slice_index_or, slice_set}
+use Rattle.std.specs.Prelude.{ℕ, suc, ◌+◌, List, [], ◌∷◌, map, fold, drop, slice_index_or, slice_set}
+use Rattle.std.specs.List.{range_with_len}
+use Rattle.changes.specs.declared.change.Home.{Home}
 use Rattle.changes.specs.Commit.{count_of, number_of}
+use Rattle.changes.specs.Homes.{home_at, contents}
 
--- the blocks p with the first n of the contents xs set at the numbers ns
-abbrev pub overlay : ℕ → (ℕ → ℕ) → (ℕ → List ℕ) → List (List ℕ) → List (List ℕ)
-overlay zero ns xs p = p
-overlay (suc n) ns xs p = slice_set (overlay n ns xs p) (ns n) (xs n)
+-- the blocks p with a home written, and with homes written one after another
+abbrev pub with_home : List (List ℕ) → Home → List (List ℕ)
+with_home p h = slice_set p h.number h.content
 
--- what the slots hold
-abbrev pub slots : List (List ℕ) → ℕ → List ℕ
-slots p i = slice_index_or p (1 + i) []
+abbrev pub overlay : List Home → List (List ℕ) → List (List ℕ)
+overlay homes p = fold with_home p homes
+
+-- contents for one block after another, the first for block k
+abbrev pub from : ℕ → List (List ℕ) → List Home
+from k [] = []
+from k (x ∷ xs) = home_at k x ∷ from (suc k) xs
+
+-- slot i is block 1 + i
+abbrev pub slot : ℕ → ℕ
+slot i = 1 + i
+
+-- the i-th content of a change goes to slot i
+abbrev pub staged : List Home → List Home
+staged homes = from (slot 0) (contents homes)
+
+abbrev pub commit_block : List (List ℕ) → List ℕ
+commit_block p = slice_index_or p 0 []
+
+-- what the commit block names: blocks, each with what its slot holds
+abbrev pub named_home : List (List ℕ) → ℕ → Home
+named_home p i = home_at (number_of (commit_block p) i) (slice_index_or p (slot i) [])
+
+abbrev pub named : List (List ℕ) → List Home
+named p = map (named_home p) (range_with_len 0 (count_of (commit_block p)))
 
 -- what finishing leaves: the blocks that the commit block names hold what the slots held
 abbrev pub finished : List (List ℕ) → List (List ℕ)
-finished p = overlay (count_of (slice_index_or p 0 [])) (number_of (slice_index_or p 0 [])) (slots p) p
+finished p = overlay (named p) p
 
 -- the home blocks
 abbrev pub home : List (List ℕ) → List (List ℕ)

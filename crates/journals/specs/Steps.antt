@@ -1,74 +1,100 @@
 -- The eight steps of a change, as what they make of a drive: done, or cut in the middle.
-use Rattle.std.specs.Prelude.{◌≡◌, ℕ, ◌<◌, true, false, ◌⊎◌, List, [], ◌∷◌, slice_index}
+use Rattle.std.specs.Prelude.{◌≡◌, ℕ, ◌<◌, true, false, ◌⊎◌, List, Result, MatchResult, Contains, length, slice_index}
 use Rattle.drives.specs.Disk.{Disk, May, size}
 use Rattle.drives.specs.Calls.{Written, CutWriting, Flushed, Cut}
+use Rattle.changes.specs.declared.change.Home.{Home}
 use Rattle.changes.specs.Commit.{commit_block_of, zeros}
-use Rattle.changes.specs.Plan.{Plan, number, content}
-use Rattle.journals.specs.Redo.{overlay}
+use Rattle.changes.specs.Homes.{home_at, numbers}
+use Rattle.journals.specs.Redo.{overlay, staged}
 use Rattle.journals.specs.declared.place.Place.{Place}
 use Rattle.journals.specs.declared.place.Place.TheVariants.{Staging, Committing, Applying}
 
--- from d to e the sets gain at most the first n of the contents xs, at the numbers ns
-abbrev pub Gains : ℕ → (ℕ → ℕ) → (ℕ → List ℕ) → Disk → Disk → Type 0
-Gains n ns xs d e =
-    (k : ℕ) (x : List ℕ) → May e k x → May d k x ⊎ ((i : ℕ) × (i < n) × (k ≡ ns i) × (x ≡ xs i))
+-- each home is a block of the drive
+abbrev pub AreWithin : List Home → Disk → Type 0
+AreWithin homes d = (i : ℕ) → i < length homes → slice_index (numbers homes) i < size d
 
--- a run of writes that was done
-pub record Wrote (n : ℕ) (ns : ℕ → ℕ) (xs : ℕ → List ℕ) (d e : Disk) : Type 0 where
+-- from d to e the blocks' lists gain at most these homes' contents, each in its block
+abbrev pub Gains : List Home → Disk → Disk → Type 0
+Gains homes d e = (k : ℕ) (x : List ℕ) → k < size d → May e k x → May d k x ⊎ Contains homes (home_at k x)
+
+-- homes written one after another: done
+pub record Wrote (homes : List Home) (d e : Disk) : Type 0 where
   pub on : e.on ≡ true
-  pub blocks : e.blocks ≡ overlay n ns xs d.blocks
-  pub gains : Gains n ns xs d e
+  pub blocks : e.blocks ≡ overlay homes d.blocks
+  pub gains : Gains homes d e
 
--- a run of writes in which power was lost
-pub record CutWrote (n : ℕ) (ns : ℕ → ℕ) (xs : ℕ → List ℕ) (d e : Disk) : Type 0 where
+-- and with power lost in a write
+pub record CutWrote (homes : List Home) (d e : Disk) : Type 0 where
   pub off : e.on ≡ false
   pub same_size : size e ≡ size d
-  pub gains : Gains n ns xs d e
+  pub gains : Gains homes d e
 
--- a run of writes, and the flush after it: done
-abbrev pub Puts : ℕ → (ℕ → ℕ) → (ℕ → List ℕ) → Disk → Disk → Type 0
-Puts n ns xs d e = (m : Disk) × Wrote n ns xs d m × Flushed m e
+-- homes written, and flushed
+pub record Stored (homes : List Home) (d e : Disk) : Type 0 where
+  pub written : Disk
+  pub writes : Wrote homes d written
+  pub flushes : Flushed written e
 
--- the same, with power lost in a write or in the flush
-abbrev pub CutPutting : ℕ → (ℕ → ℕ) → (ℕ → List ℕ) → Disk → Disk → Type 0
-CutPutting n ns xs d e = CutWrote n ns xs d e ⊎ ((m : Disk) × Wrote n ns xs d m × Cut m e)
+-- the same, with power lost
+pub data CutStoring (homes : List Home) (d e : Disk) : Type 0 where
+  in_write : CutWrote homes d e → CutStoring homes d e
+  in_flush : {m : Disk} → Wrote homes d m → Cut m e → CutStoring homes d e
 
--- the commit block written and flushed
-abbrev pub Sets : List ℕ → Disk → Disk → Type 0
-Sets c d e = (m : Disk) × Written d 0 c m × Flushed m e
+-- the commit block written, and flushed
+pub record StoredCommit (c : List ℕ) (d e : Disk) : Type 0 where
+  pub written : Disk
+  pub writes : Written d 0 c written
+  pub flushes : Flushed written e
 
--- the same, with power lost in the write or in the flush
-abbrev pub CutSetting : List ℕ → Disk → Disk → Type 0
-CutSetting c d e = CutWriting d 0 c e ⊎ ((m : Disk) × Written d 0 c m × Cut m e)
+pub data CutCommit (c : List ℕ) (d e : Disk) : Type 0 where
+  in_commit_write : CutWriting d 0 c e → CutCommit c d e
+  in_commit_flush : {m : Disk} → Written d 0 c m → Cut m e → CutCommit c d e
 
 -- steps 5 to 8: home blocks, flush, a commit block of zeros, flush
-abbrev pub Redoes : ℕ → (ℕ → ℕ) → (ℕ → List ℕ) → Disk → Disk → Type 0
-Redoes n ns xs d e = (m : Disk) × Puts n ns xs d m × Sets zeros m e
+pub record Applied (homes : List Home) (d e : Disk) : Type 0 where
+  pub home : Disk
+  pub stores : Stored homes d home
+  pub clears : StoredCommit zeros home e
 
-abbrev pub CutRedoing : ℕ → (ℕ → ℕ) → (ℕ → List ℕ) → Disk → Disk → Type 0
-CutRedoing n ns xs d e = CutPutting n ns xs d e ⊎ ((m : Disk) × Puts n ns xs d m × CutSetting zeros m e)
+pub data CutApplying (homes : List Home) (d e : Disk) : Type 0 where
+  at_home : CutStoring homes d e → CutApplying homes d e
+  in_clearing : {m : Disk} → Stored homes d m → CutCommit zeros m e → CutApplying homes d e
 
--- the i-th content goes to slot i, which is block 1 + i
-abbrev pub slot : ℕ → ℕ
-slot i = slice_index (1 ∷ (2 ∷ (3 ∷ (4 ∷ (5 ∷ (6 ∷ [])))))) i
+-- steps 1 and 2, and 3 and 4, of a change
+abbrev pub Stages : List Home → Disk → Disk → Type 0
+Stages homes d e = Stored (staged homes) d e
 
--- steps 1 and 2, 3 and 4, 5 to 8 of a change
-abbrev pub Stages : Plan → Disk → Disk → Type 0
-Stages p d e = Puts p.count slot (content p) d e
-
-abbrev pub Commits : Plan → Disk → Disk → Type 0
-Commits p d e = Sets (commit_block_of p.count p.numbers) d e
-
-abbrev pub Applies : Plan → Disk → Disk → Type 0
-Applies p d e = Redoes p.count (number p) (content p) d e
+abbrev pub Commits : List Home → Disk → Disk → Type 0
+Commits homes d e = StoredCommit (commit_block_of (numbers homes)) d e
 
 -- all eight
-abbrev pub StepsDone : Plan → Disk → Disk → Type 0
-StepsDone p d e = (s t : Disk) × Stages p d s × Commits p s t × Applies p t e
+pub record StepsDone (homes : List Home) (d e : Disk) : Type 0 where
+  pub filled : Disk
+  pub committed : Disk
+  pub stages : Stages homes d filled
+  pub commits : Commits homes filled committed
+  pub applies : Applied homes committed e
 
--- how far the steps had come when power was lost
-abbrev pub StepsCut : Place → Plan → Disk → Disk → Type 0
-StepsCut Staging p d e = CutPutting p.count slot (content p) d e
-StepsCut Committing p d e = (s : Disk) × Stages p d s × CutSetting (commit_block_of p.count p.numbers) s e
-StepsCut Applying p d e =
-    (s t : Disk) × Stages p d s × Commits p s t × CutRedoing p.count (number p) (content p) t e
+-- how far the steps had come when power was lost, by the place
+pub data StepsCut (homes : List Home) (d e : Disk) : Place → Type 0 where
+  in_staging : CutStoring (staged homes) d e → StepsCut homes d e Staging
+  in_committing :
+      {s : Disk} → Stages homes d s → CutCommit (commit_block_of (numbers homes)) s e → StepsCut homes d e Committing
+  in_applying :
+      {s t : Disk} → Stages homes d s → Commits homes s t → CutApplying homes t e → StepsCut homes d e Applying
+
+-- what comes of each: done, or cut
+abbrev pub Writes : {E : Type 0} → List Home → Disk → Result (Unit {0}) E → Disk → Type 0
+Writes homes d r e = MatchResult r (λ _. Wrote homes d e) (λ _. CutWrote homes d e)
+
+abbrev pub Stores : {E : Type 0} → List Home → Disk → Result (Unit {0}) E → Disk → Type 0
+Stores homes d r e = MatchResult r (λ _. Stored homes d e) (λ _. CutStoring homes d e)
+
+abbrev pub StoresCommit : {E : Type 0} → List ℕ → Disk → Result (Unit {0}) E → Disk → Type 0
+StoresCommit c d r e = MatchResult r (λ _. StoredCommit c d e) (λ _. CutCommit c d e)
+
+abbrev pub Applies : {E : Type 0} → List Home → Disk → Result (Unit {0}) E → Disk → Type 0
+Applies homes d r e = MatchResult r (λ _. Applied homes d e) (λ _. CutApplying homes d e)
+
+abbrev pub MakesSteps : List Home → Disk → Result (Unit {0}) Place → Disk → Type 0
+MakesSteps homes d r e = MatchResult r (λ _. StepsDone homes d e) (λ p. StepsCut homes d e p)

@@ -1,20 +1,22 @@
-ghost use Rattle.std.specs.Prelude.{◌≡◌, ℕ, ◌<◌, ◌≤◌, true, length, IsOk, IfOk, MatchResult};
-ghost use Rattle.drives.specs.Disk.{present, size as type_size};
-ghost use Rattle.changes.specs.Commit.{count_of, number_of};
-ghost use Rattle.changes.specs.Homes.{number_at, content_at};
-ghost use Rattle.changes.specs.Plan.{plan_of, last};
-ghost use Rattle.journals.specs.Redo.{slots};
-ghost use Rattle.journals.specs.Steps.{StepsDone, StepsCut};
+ghost use Rattle.std.specs.Prelude.{◌≡◌, ◌<◌, ◌≤◌, true, IsOk, IfOk};
+ghost use Rattle.drives.specs.Disk.{size as disk_size};
+ghost use Rattle.changes.specs.Commit.{count_of};
+ghost use Rattle.changes.specs.Homes.{last, IsChange};
+ghost use Rattle.journals.specs.Redo.{commit_block, named};
+ghost use Rattle.journals.specs.State.{size as type_size, IsOn, IsCertain};
+ghost use Rattle.journals.specs.Steps.{MakesSteps};
 ghost use Rattle.journals.specs.Outcomes.{ReadsBlock, PowersOn, Changes, Finishes};
 ghost use Rattle.journals.specs.Laying.{LaysDown};
 ghost use Rattle.journals.specs.declared.journal.ChangeFault.TheVariants as change-fault;
 
+use crate::fault::Fault;
 use crate::laying::lay_blocks;
 use crate::place::Place;
 use crate::steps;
 use arrayvec::ArrayVec;
 use changes::{Change, Home, is_lawful, named_block};
-use drives::{Drive, DriveFault};
+use drives::Drive;
+use std::marker::Model;
 
 /// Why a change was not made.
 #[derive(Clone, Copy, PartialEq, Eq, Debug)]
@@ -47,79 +49,97 @@ pub enum FinishFault {
     PowerLost,
 }
 
-/// A journal, which owns its drive.
+/// A journal, which owns its drive: what it means is what the drive means.
 #[derive(Drop)]
-pub struct Journal<D> {
+pub struct Journal<D: Drive> {
     drive: D,
+}
+
+impl<D: Drive> Model for Journal<D> {
+    ghost use Rattle.journals.specs.State.{State};
+
+    ghost Value = { State };
+
+    ghost view = { λ j. D.disk j.drive };
 }
 
 /// The eight steps of a change.
 fn make<D: Drive>(drive: &mut D, change: &Change) -> Result<(), Place>
     requires on { (D.disk drive.old).on ≡ true }
-    requires within { last (plan_of change.now) < type_size (D.disk drive.old) }
-    ensures steps { MatchResult result (λ _. StepsDone (plan_of change.now) (D.disk drive.old) (D.disk drive.new)) (λ p. StepsCut p (plan_of change.now) (D.disk drive.old) (D.disk drive.new)) }
+    requires within { last change.now < disk_size (D.disk drive.old) }
+    ensures steps { MakesSteps change.now (D.disk drive.old) result (D.disk drive.new) }
+    ensures change { IsChange change.now }
 {
     steps::stage(drive, change.homes()).map_err(|_| Place::Staging)?;
     steps::set_commit(drive, &change.commit_block()).map_err(|_| Place::Committing)?;
-    steps::redo(drive, change.homes()).map_err(|_| Place::Applying)
+    steps::apply(drive, change.homes()).map_err(|_| Place::Applying)
 }
 
 impl<D: Drive> Journal<D> {
     /// A journal over a drive.
     pub fn over(drive: D) -> Journal<D>
-        ensures holds { result.drive ≡ drive }
+        ensures holds { result ≡ D.disk drive }
     {
         Journal { drive }
     }
 
     /// The drive, to look at.
     pub fn drive(&self) -> &D
-        ensures value { result.now ≡ self.now.drive }
+        ensures value { D.disk result.now ≡ self.now }
     {
         &self.drive
     }
 
     /// The drive, without its journal.
     pub fn into_drive(self) -> D
-        ensures value { result ≡ self.drive }
+        ensures value { D.disk result ≡ self }
     {
         self.drive
     }
 
     /// How many blocks the drive has.
     pub fn size(&self) -> u64
-        ensures value { result ≡ type_size (D.disk self.now.drive) }
+        ensures value { result ≡ type_size self.now }
     {
         self.drive.size()
     }
 
     /// Whether there is power.
     pub fn is_on(&self) -> bool
-        ensures value { result ≡ (D.disk self.now.drive).on }
+        ensures value { result ≡ self.now.on }
     {
         self.drive.is_on()
     }
 
     /// What a block holds.
-    pub fn read(&self, block: u64) -> Result<[u8; 64], DriveFault>
-        ensures reads { ReadsBlock (D.disk self.now.drive) block result }
+    pub fn read(&self, block: u64) -> Result<[u8; 64], Fault>
+        ensures reads { ReadsBlock self.now block result }
     {
+        if !self.is_on() {
+            return Err(Fault::Off);
+        }
+        if block >= self.size() {
+            return Err(Fault::Beyond);
+        }
         let mut buffer = [0; 64];
-        self.drive.read(block, &mut buffer)?;
-        Ok(buffer)
+        match self.drive.read(block, &mut buffer) {
+            Ok(()) => Ok(buffer),
+            // A drive that is on reads each of its blocks.
+            Err(_) => unreachable!(),
+        }
     }
 
     /// Turns power off and on again.
-    pub fn power(&mut self) -> Result<(), DriveFault>
-        ensures powers { PowersOn (D.disk self.old.drive) result (D.disk self.new.drive) }
-        ensures done { D.powers_up self.old.drive ≡ true → IsOk result }
+    pub fn power(&mut self) -> Result<(), Fault>
+        ensures powers { PowersOn self.old result self.new }
+        ensures done { IsCertain self.old → IsOk result }
     {
-        self.drive.power()
+        self.drive.power().map_err(|_| Fault::PowerLost)
     }
 
     /// Makes a change, whole or not at all.
     pub fn change(&mut self, change: &Change) -> Result<(), ChangeFault>
-        ensures changes { Changes (D.disk self.old.drive) (plan_of change.now) result (D.disk self.new.drive) }
+        ensures changes { Changes self.old change.now result self.new }
     {
         if !self.is_on() {
             return Err(ChangeFault::Off);
@@ -133,7 +153,7 @@ impl<D: Drive> Journal<D> {
 
     /// Finishes what the commit block names, or does nothing where it names nothing.
     pub fn finish(&mut self) -> Result<(), FinishFault>
-        ensures finishes { Finishes (D.disk self.old.drive) result (D.disk self.new.drive) }
+        ensures finishes { Finishes self.old result self.new }
     {
         if !self.is_on() {
             return Err(FinishFault::Off);
@@ -151,31 +171,30 @@ impl<D: Drive> Journal<D> {
         let homes = self
             .read_named(&commit)
             .map_err(|_| FinishFault::PowerLost)?;
-        steps::redo(&mut self.drive, &homes).map_err(|_| FinishFault::PowerLost)
+        steps::apply(&mut self.drive, &homes).map_err(|_| FinishFault::PowerLost)
     }
 
     /// Empties the journal and lays down the first home blocks, 7 to 33, for a drive that is to begin anew.
-    pub fn lay_down(&mut self, home: &[[u8; 64]; 27]) -> Result<(), DriveFault>
-        ensures lays_down { LaysDown (D.disk self.old.drive) home.now result (D.disk self.new.drive) }
+    pub fn lay_down(&mut self, home: &[[u8; 64]; 27]) -> Result<(), Fault>
+        ensures lays_down { LaysDown self.old home.now result self.new }
     {
         if !self.is_on() {
-            return Err(DriveFault::Off);
+            return Err(Fault::Off);
         }
         if self.size() < 34 {
-            return Err(DriveFault::NoSuchBlock);
+            return Err(Fault::Beyond);
         }
-        lay_blocks(&mut self.drive, home).map_err(|_| DriveFault::PowerLost)
+        lay_blocks(&mut self.drive, home).map_err(|_| Fault::PowerLost)
     }
 
     /// The home blocks that a lawful commit block names, each with what its slot holds.
-    fn read_named(&self, commit: &[u8; 64]) -> Result<ArrayVec<Home, 6>, DriveFault>
-        requires on { (D.disk self.now.drive).on ≡ true }
-        requires wide { 7 ≤ type_size (D.disk self.now.drive) }
+    fn read_named(&self, commit: &[u8; 64]) -> Result<ArrayVec<Home, 6>, Fault>
+        requires on { IsOn self.now }
+        requires wide { 7 ≤ type_size self.now }
+        requires commit { commit.now ≡ commit_block self.now.blocks }
         requires few { count_of commit.now ≤ 6 }
         ensures reads { IsOk result }
-        ensures counts { IfOk result (λ homes. length homes.items ≡ count_of commit.now) }
-        ensures numbers { IfOk result (λ homes. (i : ℕ) → i < count_of commit.now → number_at homes.items i ≡ number_of commit.now i) }
-        ensures contents { IfOk result (λ homes. (i : ℕ) → i < count_of commit.now → content_at homes.items i ≡ slots (D.disk self.now.drive).blocks i) }
+        ensures named { IfOk result (λ homes. homes.items ≡ named self.now.blocks) }
     {
         let mut homes = ArrayVec::new();
         // A `for` with `?`: of a `collect` into a `Result` the check does not learn when it fails.

@@ -1,7 +1,9 @@
 // Laying down the first home blocks of a drive that is to begin anew.
-ghost use Rattle.std.specs.Prelude.{◌≡◌, ◌+◌, ◌≤◌, true, MatchResult, length};
+ghost use Rattle.std.specs.Prelude.{◌≡◌, ◌+◌, ◌≤◌, true, length};
 ghost use Rattle.drives.specs.Disk.{size};
-ghost use Rattle.journals.specs.Laying.{Lays, CutLaying, Runs, CutRun};
+ghost use Rattle.journals.specs.Redo.{from};
+ghost use Rattle.journals.specs.Steps.{Writes};
+ghost use Rattle.journals.specs.Laying.{LaysBlocks};
 
 use drives::{Drive, DriveFault};
 
@@ -10,7 +12,7 @@ fn write_run<D: Drive>(drive: &mut D, first: u64, contents: &[[u8; 64]]) -> Resu
     requires on { (D.disk drive.old).on ≡ true }
     requires few { first + length contents.now ≤ 64 }
     requires within { first + length contents.now ≤ size (D.disk drive.old) }
-    ensures wrote { MatchResult result (λ _. Runs first contents.now (D.disk drive.old) (D.disk drive.new)) (λ _. CutRun first contents.now (D.disk drive.old) (D.disk drive.new)) }
+    ensures wrote { Writes (from first contents.now) (D.disk drive.old) result (D.disk drive.new) }
 {
     for (i, content) in contents.iter().enumerate() {
         drive.write(first + i as u64, content)?;
@@ -22,7 +24,7 @@ fn write_run<D: Drive>(drive: &mut D, first: u64, contents: &[[u8; 64]]) -> Resu
 pub(crate) fn lay_blocks<D: Drive>(drive: &mut D, home: &[[u8; 64]; 27]) -> Result<(), DriveFault>
     requires on { (D.disk drive.old).on ≡ true }
     requires wide { 34 ≤ size (D.disk drive.old) }
-    ensures lays { MatchResult result (λ _. Lays home.now (D.disk drive.old) (D.disk drive.new)) (λ _. CutLaying home.now (D.disk drive.old) (D.disk drive.new)) }
+    ensures lays { LaysBlocks home.now (D.disk drive.old) result (D.disk drive.new) }
 {
     write_run(drive, 0, &[[0; 64]; 7])?;
     write_run(drive, 8, &home[1..27])?;

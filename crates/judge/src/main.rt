@@ -3,7 +3,7 @@
 #![tactic(auto)]
 
 use books::Book;
-use drives::Drive;
+use image::record_block;
 use journals::Journal;
 use judging::inspect;
 use ledger::Ledger;
@@ -20,8 +20,8 @@ Nothing is written back. docs/IMAGE.md has the form of an image.";
 /// The audit of an image that was accepted, a line for each record.
 fn print_audit(rt: &HostRuntime, journal: &Journal<TrialDrive>, count: u64) -> anyhow::Result<()> {
     for number in 1..=u32::try_from(count)? {
-        // Record n stands in block 33 + n. One that cannot be read is left out of the list.
-        let Ok(block) = journal.read(33 + u64::from(number)) else {
+        // A record that cannot be read is left out of the list.
+        let Ok(block) = journal.read(record_block(number)) else {
             continue;
         };
         if let Some(entry) = decode(&block, number) {

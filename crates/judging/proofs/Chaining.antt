@@ -1,14 +1,13 @@
 -- The verdict on home blocks, test by test.
 use Rattle.std.proofs.Common.{◌≡◌, ℕ, List, Ok, Err, Result, sym, ap, ◌∙◌}
-use Rattle.std.specs.List.{flat_map}
 use Rattle.refusals.specs.declared.refusal.Refusal.{Refusal}
-use Rattle.refusals.specs.Refused.{and_then}
+use Rattle.refusals.specs.Refused.{◌>>=◌}
 use Rattle.books.specs.Meaning.{Meaning}
 use Rattle.layout.specs.declared.head.Head.{Head}
-use Rattle.layout.specs.Codes.{codes_of}
 use Rattle.layout.specs.Head.{head_of}
 use Rattle.carrying.specs.Standing.{Standing}
-use Rattle.image.specs.Home.{at, blocks_at, opening_on}
+use Rattle.image.specs.Home.{at, opening_on}
+use Rattle.image.specs.Layout.{head_block}
 use Rattle.image.specs.Verdict.{checked_head, checked_opening, replayed, compared, differing_block, judged}
 
 module _ (m : Meaning) (most : ℕ) (h : List (List ℕ)) where
@@ -17,28 +16,28 @@ module _ (m : Meaning) (most : ℕ) (h : List (List ℕ)) where
   after_records d t = compared d.count (differing_block h t)
 
   abbrev after_opening : Head → Standing → Result ℕ Refusal
-  after_opening d s = and_then (replayed m most h d.count 1 s) (after_records d)
+  after_opening d s = replayed m most h d.count 1 s >>= after_records d
 
   -- the head passed
-  module _ (b : List ℕ) (d : Head) (found : b ≡ at h 7) (passed : Ok d ≡ checked_head m most (head_of b)) where
-    headed : judged m most h ≡ and_then (checked_opening m (opening_on h)) (after_opening d)
+  module _ (b : List ℕ) (d : Head) (found : b ≡ at h head_block) (passed : Ok d ≡ checked_head m most (head_of b)) where
+    headed : judged m most h ≡ (checked_opening m (opening_on h) >>= after_opening d)
     headed =
-        ap (λ z. and_then z (λ d. and_then (checked_opening m (opening_on h)) (after_opening d)))
+        ap (λ z. z >>= λ d. checked_opening m (opening_on h) >>= after_opening d)
         (sym (passed ∙ ap (λ z. checked_head m most (head_of z)) found))
 
     -- the opening gave an answer
-    module _ (bs : List (List ℕ)) (read : bs ≡ blocks_at h 16 8) where
-      opening_is : (r : Result Standing Refusal) → checked_opening m (flat_map codes_of bs) ≡ r → judged m most h ≡ and_then r (after_opening d)
+    module _ (codes : List ℕ) (read : codes ≡ opening_on h) where
+      opening_is : (r : Result Standing Refusal) → checked_opening m codes ≡ r → judged m most h ≡ (r >>= after_opening d)
       opening_is r e =
-          headed ∙ ap (λ z. and_then z (after_opening d)) (sym (ap (λ z. checked_opening m (flat_map codes_of z)) read) ∙ e)
+          headed ∙ ap (λ z. z >>= after_opening d) (sym (ap (checked_opening m) read) ∙ e)
 
-      pub opening_refused : (e : Refusal) → checked_opening m (flat_map codes_of bs) ≡ Err e → Err e ≡ judged m most h
+      pub opening_refused : (e : Refusal) → checked_opening m codes ≡ Err e → Err e ≡ judged m most h
       opening_refused e q = sym (opening_is (Err e) q)
 
       -- the records did
-      module _ (s : Standing) (opened : checked_opening m (flat_map codes_of bs) ≡ Ok s) where
+      module _ (s : Standing) (opened : checked_opening m codes ≡ Ok s) where
         pub record_refused : (e : Refusal) → replayed m most h d.count 1 s ≡ Err e → Err e ≡ judged m most h
-        record_refused e q = sym (opening_is (Ok s) opened ∙ ap (λ z. and_then z (after_records d)) q)
+        record_refused e q = sym (opening_is (Ok s) opened ∙ ap (λ z. z >>= after_records d) q)
 
         pub all_compared : (t : Standing) (r : Result ℕ Refusal) → replayed m most h d.count 1 s ≡ Ok t → r ≡ compared d.count (differing_block h t) → r ≡ judged m most h
-        all_compared t r q e = e ∙ sym (opening_is (Ok s) opened ∙ ap (λ z. and_then z (after_records d)) q)
+        all_compared t r q e = e ∙ sym (opening_is (Ok s) opened ∙ ap (λ z. z >>= after_records d) q)

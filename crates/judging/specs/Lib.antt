@@ -1,1 +1,3 @@
 pub mod Inspects
+pub mod Replaying
+pub mod Laws

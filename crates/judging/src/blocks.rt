@@ -1,19 +1,16 @@
-// The parts of the verdict, each on blocks that were read.
-ghost use Rattle.std.specs.Prelude.{◌≡◌, ◌&&◌, Ok, Err, MatchResult, IfOk, ◌==◌, nat_le};
-ghost use Rattle.std.specs.List.{flat_map};
-ghost use Rattle.refusals.specs.Refused.{and_then};
-ghost use Rattle.records.specs.Form.{decoded};
-ghost use Rattle.layout.specs.Codes.{codes_of};
+// The parts of the verdict, each on what was read.
+ghost use Rattle.std.specs.Prelude.{◌≡◌, ◌&&◌, IfOk, ◌==◌, nat_le};
 ghost use Rattle.layout.specs.Head.{head_of};
+ghost use Rattle.carrying.specs.Results.{Gives};
 ghost use Rattle.carrying.specs.Standing.{standing_of};
-ghost use Rattle.carrying.specs.Carried.{carried};
-ghost use Rattle.image.specs.Verdict.{checked_head, checked_opening, exact_record, at_record};
+ghost use Rattle.image.specs.Verdict.{checked_head, checked_opening, replayed_record};
+ghost use Rattle.judging.specs.Replaying.{Replays};
 
 use books::Book;
 use carrying::Held;
-use image::codes_in;
+use image::HEAD;
 use layout::{Head, read_head};
-use records::decode;
+use records::Record;
 use refusals::{Reason, Refusal};
 use rights::Row;
 
@@ -30,19 +27,14 @@ pub(crate) fn check_head<B: Book>(room: u64, block: &[u8; 64]) -> Result<Head, R
 {
     read_head(block)
         .filter(|head| is_own::<B>(room, *head))
-        .ok_or(Refusal::at(Reason::BadHead, 7))
+        .ok_or(Refusal::at(Reason::BadHead, HEAD))
 }
 
 /// The books as they were opened, if the opening is valid.
-pub(crate) fn check_opening<B: Book>(
-    book: &B,
-    room: u64,
-    blocks: &[[u8; 64]; 8],
-) -> Result<Held, Refusal>
-    ensures value { MatchResult result (λ h. checked_opening B.meaning (flat_map codes_of blocks.now) ≡ Ok (standing_of h)) (λ e. checked_opening B.meaning (flat_map codes_of blocks.now) ≡ Err e) }
+pub(crate) fn check_opening<B: Book>(book: &B, room: u64, items: [u64; 64]) -> Result<Held, Refusal>
+    ensures value { Gives (checked_opening B.meaning items) result }
     ensures room { IfOk result (λ h. h.room ≡ room) }
 {
-    let items = codes_in(blocks);
     if !book.verify(&items) {
         return Err(Refusal::at(Reason::InvalidOpening, 0));
     }
@@ -54,17 +46,19 @@ pub(crate) fn check_opening<B: Book>(
     })
 }
 
-/// Carries out the record that a block holds, if it is in its exact form.
-pub(crate) fn replay_block<B: Book>(
+/// Carries out the record of a number, if there is one in exact form.
+pub(crate) fn replay_record<B: Book>(
     book: &B,
     held: &mut Held,
     number: u32,
-    block: &[u8; 64],
+    found: Option<Record>,
 ) -> Result<(), Refusal>
-    ensures value { MatchResult result (λ _. and_then (exact_record number (decoded number block.now)) (λ x. at_record number (carried B.meaning held.old.room (standing_of held.old) x)) ≡ Ok (standing_of held.new)) (λ e. and_then (exact_record number (decoded number block.now)) (λ x. at_record number (carried B.meaning held.old.room (standing_of held.old) x)) ≡ Err e) }
+    ensures replays { Replays
+        (replayed_record B.meaning held.old.room number found (standing_of held.old))
+        result (standing_of held.new) }
     ensures same_room { held.new.room ≡ held.old.room }
 {
     let bad = Refusal::at(Reason::BadRecord, u64::from(number));
-    let entry = decode(block, number).ok_or(bad)?;
+    let entry = found.ok_or(bad)?;
     held.carry_out(book, entry).map_err(|_| bad)
 }

@@ -1,11 +1,12 @@
 ghost use Rattle.std.specs.Prelude.{◌≡◌, true, Err};
-ghost use Rattle.drives.specs.Disk.{size as size-of};
-ghost use Rattle.image.specs.Lawful.{lawful_size};
+ghost use Rattle.journals.specs.State.{IsCertain, size as size-of};
+ghost use Rattle.image.specs.Layout.{lawful_size};
 ghost use Rattle.judging.specs.Inspects.{Inspects, PoweredOn, unfinished_for};
 
 use crate::judge::{judge, power_lost};
 use books::Book;
 use drives::Drive;
+use image::{Reader, is_lawful_size};
 use journals::{FinishFault, Journal};
 use refusals::{Reason, Refusal};
 
@@ -22,14 +23,15 @@ fn unfinished(fault: FinishFault) -> Refusal
 /// Turns power on, finishes what was cut, and judges what stands then: the record count, or the first refusal that the
 /// image earns.
 pub fn inspect<D: Drive, B: Book>(journal: &mut Journal<D>, book: &B) -> Result<u64, Refusal>
-    ensures inspects { Inspects B.meaning (D.disk journal.old.drive) result (D.disk journal.new.drive) }
-    ensures powers_up { D.powers_up journal.old.drive ≡ true → lawful_size (size-of (D.disk journal.old.drive)) ≡ true → PoweredOn B.meaning (D.disk journal.old.drive) result (D.disk journal.new.drive) }
+    ensures inspects { Inspects B.meaning journal.old result journal.new }
+    ensures powers_up { IsCertain journal.old → lawful_size (size-of journal.old) ≡ true →
+        PoweredOn B.meaning journal.old result journal.new }
 {
     let size = journal.size();
-    if size < 35 || size > 1024 {
+    if !is_lawful_size(size) {
         return Err(Refusal::at(Reason::BadSize, size));
     }
     journal.power().map_err(|_| power_lost())?;
     journal.finish().map_err(unfinished)?;
-    judge(journal, book)
+    judge(&Reader { journal }, book)
 }

@@ -3,3 +3,4 @@ pub mod Codes
 pub mod Rows
 pub mod Roll
 pub mod Rounds
+pub mod Laws

@@ -1,5 +1,6 @@
 ghost use Rattle.std.specs.Prelude.{◌≡◌, ◌*◌, ◌<◌, ◌≤◌};
-ghost use Rattle.encoding.specs.Numbers.{eight_from};
+ghost use Rattle.std.specs.Int.{w64};
+ghost use Rattle.encoding.specs.Numbers.{number_at};
 ghost use Rattle.layout.specs.Codes.{codes_form, codes_of};
 
 use encoding::eight_at;
@@ -16,7 +17,7 @@ pub fn codes_block(codes: &[u64; 8]) -> [u8; 64]
 
 /// The code at a place from 0 to 7 of a block; 0 from there on.
 pub fn read_code(block: &[u8; 64], place: usize) -> u64
-    ensures value { place < 8 → result ≡ eight_from block.now (8 * place) }
+    ensures value { place < 8 → result ≡ number_at w64 block.now (8 * place) }
     ensures beyond { 8 ≤ place → result ≡ 0 }
 {
     if place >= 8 {

@@ -1,6 +1,5 @@
-ghost use Rattle.std.specs.Prelude.{◌≡◌, MatchOption, ◌≢◌};
-ghost use Rattle.layout.specs.Head.{head_form, HeadFits, fields_of_head, head_of};
-ghost use Rattle.layout.specs.declared.head.Head.{Head as Heading};
+ghost use Rattle.std.specs.Prelude.{◌≡◌, MatchOption};
+ghost use Rattle.layout.specs.Head.{head_form, fields_of_head, head_of, HeadForm, IsNoHead};
 
 use crate::head::Head;
 use encoding::four_at;
@@ -29,13 +28,17 @@ pub fn head_fields(block: &[u8; 64]) -> Head
 }
 
 /// What a head block says; none where the block is no head's, or its house number is 0.
+#[tactic(auto, using(crate::specs::Laws::head_reads))]
 pub fn read_head(block: &[u8; 64]) -> Option<Head>
-    ensures reads { MatchOption result ((h : Heading) → HeadFits h → (h.house ≢ 0) → head_form h ≢ block.now) (λ h. (h.house ≢ 0) × (head_form h ≡ block.now)) }
+    ensures reads { MatchOption result (IsNoHead block.now) (λ h. HeadForm h block.now) }
     ensures value { result ≡ head_of block.now }
 {
     let head = head_fields(block);
     if head.house == 0 {
         return None;
     }
-    (head_block(head) == *block).then_some(head)
+    if head_block(head) != *block {
+        return None;
+    }
+    Some(head)
 }

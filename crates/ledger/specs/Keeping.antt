@@ -1,15 +1,15 @@
 -- The ledger's step keeps a valid list valid: what a gains, b loses.
-use Rattle.std.specs.Prelude.{◌≡◌, ℕ, ◌<◌, Bool, true, false, cond, List, map, length, get_or, set, ℤ, pos, negsuc, ◌+ℤ◌, neg_ℤ, Some, None, Ok, Option, FitsSigned, ◌==◌, ◌≢◌, slice_index_or, slice_set, refl}
+use Rattle.std.specs.Prelude.{◌≡◌, ℕ, ◌<◌, Bool, true, false, List, map, length, get_or, set, ℤ, pos, negsuc, ◌+ℤ◌, neg_ℤ, Some, None, Ok, Option, FitsSigned, ◌==◌, ◌≢◌, slice_index_or, slice_set, refl, if◌then◌else◌}
 use Rattle.std.proofs.Common.{sym, ap, ◌∙◌, arith}
 use Rattle.std.specs.Int.{w64}
 use Rattle.std.proofs.lemmas.List.{length-set, length-map, map-set, get_or-map, get_or-set_other}
 use Rattle.std.proofs.lemmas.Int.{ints, to_z-of_z}
 use Rattle.std.proofs.lemmas.Bool.{and_parts, and_from, eq-eqb, eqb-true}
+use Rattle.std.specs.List.{list_all}
+use Rattle.lists.specs.Answers.{passed}
+use Rattle.lists.specs.Elements.{all_set}
 use Rattle.books.specs.Meaning.{StepKeepsValid, amount_ok}
-use Rattle.lists.specs.Every.{all}
 use Rattle.ledger.specs.Ledger.{ledger, ledger_takes, balance, balance_code, balance_stays, within, is_zero, total, code_changed, both}
-use Rattle.lists.proofs.Elements.{all_set}
-use Rattle.books.proofs.Accepted.{passed}
 use Rattle.ledger.specs.Totals.{total_set, within_bounds}
 
 -- both codes were there
@@ -30,7 +30,7 @@ balance_back : (z : ℤ) → within z ≡ true → balance (balance_code z) ≡ 
 balance_back z h = to_z-of_z w64 z (within_fits z h)
 
 -- a changed code stands for the changed balance, which lies within its bounds
-changed_by : (t : Bool) (z d : ℤ) (x : ℕ) → balance_stays z d ≡ t → cond t (Some (balance_code (z +ℤ d))) None ≡ Some x → (within (balance x) ≡ true) × (balance x ≡ z +ℤ d)
+changed_by : (t : Bool) (z d : ℤ) (x : ℕ) → balance_stays z d ≡ t → (if t then Some (balance_code (z +ℤ d)) else None) ≡ Some x → (within (balance x) ≡ true) × (balance x ≡ z +ℤ d)
 changed_by true z d x s e =
     let w = (and_parts (within z) (within (z +ℤ d)) s).1 in
     let c : balance_code (z +ℤ d) ≡ x = cc in
@@ -48,16 +48,20 @@ still_zero zs a b x y la lb ne e z =
     ap is_zero s ∙ z
 
 pub ledger_keeps : StepKeepsValid ledger
-ledger_keeps cs p a b n x y la lb ne v s =
+ledger_keeps cs d x y la lb ne v s =
+    let a : ℕ = d.a in
+    let b : ℕ = d.b in
+    let more : ℤ = pos d.amount in
+    let less : ℤ = neg_ℤ (pos d.amount) in
     let X : ℕ = get_or cs a 0 in
     let Y : ℕ = get_or cs b 0 in
-    let s1 = (passed (ledger_takes p a b) _ _ (x, y) s).1 in
-    let s2 = (passed (amount_ok 1000000000 n) _ _ (x, y) s1).1 in
-    let given = both_given (code_changed X (pos n)) (code_changed Y (neg_ℤ (pos n))) x y s2 in
-    let cx = changed_by (balance_stays (balance X) (pos n)) (balance X) (pos n) x refl given.0 in
-    let cy = changed_by (balance_stays (balance Y) (neg_ℤ (pos n))) (balance Y) (neg_ℤ (pos n)) y refl given.1 in
+    let s1 = (passed (ledger_takes d) _ _ (x, y) s).1 in
+    let s2 = (passed (amount_ok 1000000000 d.amount) _ _ (x, y) s1).1 in
+    let given = both_given (code_changed X more) (code_changed Y less) x y s2 in
+    let cx = changed_by (balance_stays (balance X) more) (balance X) more x refl given.0 in
+    let cy = changed_by (balance_stays (balance Y) less) (balance Y) less y refl given.1 in
     let vl = and_parts (length cs == 64) _ v in
-    let vr = and_parts (all within (map balance cs)) (is_zero (total (map balance cs))) vl.1 in
+    let vr = and_parts (list_all within (map balance cs)) (is_zero (total (map balance cs))) vl.1 in
     let len : length cs ≡ 64 = eqb-true (length cs) 64 vl.0 in
     let za : a < length (map balance cs) = simp length-map (omega arith) in
     let zb : b < length (map balance cs) = simp length-map (omega arith) in
@@ -68,5 +72,5 @@ ledger_keeps cs p a b n x y la lb ne v s =
     and_from _ _
     (eq-eqb _ 64 (simp length-set len))
     (and_from _ _
-    (ap (all within) moved ∙ all_set within (slice_set (map balance cs) a (balance x)) b (balance y) cy.0 (all_set within (map balance cs) a (balance x) cx.0 vr.0))
+    (ap (list_all within) moved ∙ all_set within (slice_set (map balance cs) a (balance x)) b (balance y) cy.0 (all_set within (map balance cs) a (balance x) cx.0 vr.0))
     (ap (λ zs. is_zero (total zs)) moved ∙ still_zero (map balance cs) a b (balance x) (balance y) za zb ne sums vr.1))

@@ -1,11 +1,12 @@
 -- The ledger: signed balances in pence. Items 0 to 7 are the house's own accounts, 8 to 63 the depositors'.
-use Rattle.std.specs.Prelude.{ℕ, Bool, cond, not, ◌&&◌, ◌||◌, List, [], ◌∷◌, map, length, ℤ, pos, negsuc, ◌+ℤ◌, neg_ℤ, Some, None, Ok, Err, codes, fold, Option, Result, ◌==◌, int_le, nat_le, nat_lt}
+use Rattle.std.specs.Prelude.{ℕ, Bool, false, not, ◌&&◌, ◌||◌, List, [], ◌∷◌, map, length, ℤ, pos, negsuc, ◌+ℤ◌, neg_ℤ, Some, None, Ok, Err, codes, fold, Option, Result, ◌==◌, int_le, nat_le, nat_lt, if◌then◌else◌}
+use Rattle.std.specs.List.{list_all}
 use Rattle.std.specs.Int.{w64}
 use Rattle.std.proofs.Common.{to_z, of_z}
 use Rattle.refusals.specs.declared.step_place.StepPlace.{StepPlace}
 use Rattle.refusals.specs.declared.step_place.StepPlace.TheVariants.{Items, Amount, Values}
+use Rattle.books.specs.declared.draft.Draft.{Draft}
 use Rattle.books.specs.Meaning.{Meaning, amount_ok}
-use Rattle.lists.specs.Every.{all}
 
 -- the balance that a code stands for: two's complement at 64 bits
 abbrev pub balance : ℕ → ℤ
@@ -27,7 +28,8 @@ total zs = fold ◌+ℤ◌ (pos 0) zs
 
 -- 64 balances, each within its bounds, whose sum is zero
 abbrev pub ledger_valid : List ℕ → Bool
-ledger_valid cs = length cs == 64 && (all within (map balance cs) && is_zero (total (map balance cs)))
+ledger_valid cs =
+    length cs == 64 && (list_all within (map balance cs) && is_zero (total (map balance cs)))
 
 -- an account of the house's own
 abbrev pub own : ℕ → Bool
@@ -37,12 +39,17 @@ own i = nat_lt i 8
 abbrev pub depositor : ℕ → Bool
 depositor i = nat_le 8 i && nat_lt i 64
 
+-- two accounts of the house's own, or two depositors'
+abbrev pub of_one_side : ℕ → ℕ → Bool
+of_one_side i j = (own i && own j) || (depositor i && depositor j)
+
 -- charge (1): a is a depositor's, b the house's; receipt (2): the reverse; shift (3): two items of one side
-abbrev pub ledger_takes : ℕ → ℕ → ℕ → Bool
-ledger_takes p a b =
-    cond (p == 1) (depositor a && own b)
-    (cond (p == 2) (own a && depositor b)
-    (p == 3 && (not (a == b) && ((own a && own b) || (depositor a && depositor b)))))
+abbrev pub ledger_takes : Draft → Bool
+ledger_takes d =
+    if d.procedure == 1 then depositor d.a && own d.b
+    else if d.procedure == 2 then own d.a && depositor d.b
+    else if d.procedure == 3 then not (d.a == d.b) && of_one_side d.a d.b
+    else false
 
 -- a balance lies within its bounds before and after a change
 abbrev pub balance_stays : ℤ → ℤ → Bool
@@ -51,7 +58,7 @@ balance_stays z change = within z && within (z +ℤ change)
 -- the code after a change; none where the balance lies outside before or after
 abbrev pub code_changed : ℕ → ℤ → Option ℕ
 code_changed c change =
-    cond (balance_stays (balance c) change) (Some (balance_code (balance c +ℤ change))) None
+    if balance_stays (balance c) change then Some (balance_code (balance c +ℤ change)) else None
 
 -- both new codes, or place 3
 abbrev pub both : Option ℕ → Option ℕ → Result (ℕ × ℕ) StepPlace
@@ -60,12 +67,11 @@ both (Some x) None = Err Values
 both (Some x) (Some y) = Ok (x, y)
 
 -- the amount is added to a and taken from b
-abbrev pub ledger_step : ℕ → ℕ → ℕ → ℕ → ℕ → ℕ → Result (ℕ × ℕ) StepPlace
-ledger_step p a b x y n =
-    cond (ledger_takes p a b)
-    (cond (amount_ok 1000000000 n)
-    (both (code_changed x (pos n)) (code_changed y (neg_ℤ (pos n))))
-    (Err Amount)) (Err Items)
+abbrev pub ledger_step : Draft → ℕ × ℕ → Result (ℕ × ℕ) StepPlace
+ledger_step d before =
+    if not (ledger_takes d) then Err Items
+    else if not (amount_ok 1000000000 d.amount) then Err Amount
+    else both (code_changed before.0 (pos d.amount)) (code_changed before.1 (neg_ℤ (pos d.amount)))
 
 abbrev pub ledger : Meaning
 ledger = record {

@@ -3,7 +3,7 @@
 
 ghost use Rattle.std.specs.Prelude.{◌≡◌, ◌≤◌, Some, map, length};
 ghost use Rattle.ledger.specs.Ledger.{ledger, ledger_takes, own, depositor, balance, within, total, code_changed};
-ghost use Rattle.lists.specs.Every.{all};
+ghost use Rattle.std.specs.List.{list_all};
 ghost use Rattle.books.specs.Words.{word_of};
 ghost use Rattle.ledger.specs.Keeping.{ledger_keeps};
 ghost use Rattle.ledger.specs.Stepping.{ledger_tests, ledger_gives_codes};
@@ -86,10 +86,13 @@ impl Procedure {
         }
     }
 
-    /// Whether it takes these two items.
-    fn takes(self, a: u64, b: u64) -> bool
-        ensures value { result ≡ ledger_takes (number self) a b }
+    /// Whether it takes the items of a draft, which is a draft of this procedure.
+    fn takes(self, draft: Draft) -> bool
+        requires procedure { draft.procedure ≡ number self }
+        ensures value { result ≡ ledger_takes draft }
     {
+        let a = draft.a;
+        let b = draft.b;
         match self {
             Procedure::Charge => is_depositor(a) && is_own(b),
             Procedure::Receipt => is_own(a) && is_depositor(b),
@@ -109,7 +112,7 @@ fn is_within(pence: i64) -> bool
 
 /// Whether every balance lies within its bounds.
 fn are_within(codes: &[u64]) -> bool
-    ensures value { result ≡ all within (map balance codes.now) }
+    ensures value { result ≡ list_all within (map balance codes.now) }
 {
     codes.iter().all(|code| is_within(code.cast_signed()))
 }
@@ -194,7 +197,7 @@ impl Book for Ledger {
     }
 
     fn step(&self, draft: Draft, codes: (u64, u64)) -> Result<(u64, u64), StepPlace> {
-        if !Procedure::try_from(draft.procedure)?.takes(draft.a, draft.b) {
+        if !Procedure::try_from(draft.procedure)?.takes(draft) {
             return Err(StepPlace::Items);
         }
         if !(1..=Self::CEILING).contains(&draft.amount) {

@@ -1,42 +1,27 @@
 -- Where a list falls into pieces and words.
-use Rattle.std.proofs.Common.{◌≡◌, ℕ, ◌+◌, ◌<◌, Bool, true, not, ◌&&◌, List, [], ◌∷◌, length, take, drop, Some, None, sym, refl, ap, ◌∙◌, one-add, arith}
-use Rattle.std.specs.List.{list_all, slice_split, onto_first, before_first, after_first, position, position_or_len}
+use Rattle.std.proofs.Common.{◌≡◌, ℕ, ◌+◌, ◌<◌, Bool, true, not, List, [], ◌∷◌, length, take, drop, Some, None, sym, refl, ap, ◌∙◌, one-add, arith}
+use Rattle.std.specs.List.{slice_split, before_first, after_first, position, position_or_len}
 use Rattle.std.proofs.lemmas.List.{length-take-le}
 use Rattle.std.proofs.lemmas.List.Splits.{slice_split_first}
 use Rattle.std.proofs.lemmas.List.Sums.{prefix_len-le-length}
 use Rattle.std.proofs.lemmas.Bool.{cond_both, not-true, not-false}
 use Rattle.std.proofs.lemmas.Bool.Decides.{nat_tests}
 use Rattle.std.proofs.Math.Bool.{not-not}
-use Rattle.lists.specs.Every.{all}
-use Rattle.lexer.specs.Pieces.{newline, blank, onto, pieces, filled, lines, words}
-
--- the tests of every element are one
-pub all_is_list_all : {X : Type 0} (p : X → Bool) (xs : List X) → all p xs ≡ list_all p xs
-all_is_list_all p [] = refl
-all_is_list_all p (x ∷ xs) = ap (λ b. p x && b) (all_is_list_all p xs)
-
--- pieces are the parts that std's `split` gives
-onto_is_onto_first : (b : ℕ) (ps : List (List ℕ)) → onto b ps ≡ onto_first b ps
-onto_is_onto_first b [] = refl
-onto_is_onto_first b (p ∷ ps) = refl
-
-pub pieces_are_parts : (cut : ℕ → Bool) (xs : List ℕ) → pieces cut xs ≡ slice_split cut xs
-pieces_are_parts cut [] = refl
-pieces_are_parts cut (b ∷ bs) = rw (pieces_are_parts cut bs, onto_is_onto_first) refl
+use Rattle.lexer.specs.Pieces.{newline, blank, filled, lines, words}
 
 -- the first piece ends before the first cut, and the rest begins after it
 pieces_cut :
     (cut : ℕ → Bool) (xs : List ℕ)
     → position_or_len cut xs < length xs
-    → pieces cut xs ≡ before_first cut xs ∷ pieces cut (after_first cut xs)
-pieces_cut cut xs h = rw (pieces_are_parts, pieces_are_parts) (slice_split_first cut xs 0 h)
+    → slice_split cut xs ≡ before_first cut xs ∷ slice_split cut (after_first cut xs)
+pieces_cut cut xs h = slice_split_first cut xs 0 h
 
 -- where nothing is cut, the whole is the only piece
-pieces_whole : (cut : ℕ → Bool) (xs : List ℕ) → position_or_len cut xs ≡ length xs → pieces cut xs ≡ xs ∷ []
+pieces_whole : (cut : ℕ → Bool) (xs : List ℕ) → position_or_len cut xs ≡ length xs → slice_split cut xs ≡ xs ∷ []
 pieces_whole cut [] h = refl
 pieces_whole cut (b ∷ bs) h =
     cond_both (not (cut b)) (1 + position_or_len cut bs) 0
-    (λ n. n ≡ length (b ∷ bs) → pieces cut (b ∷ bs) ≡ (b ∷ bs) ∷ [])
+    (λ n. n ≡ length (b ∷ bs) → slice_split cut (b ∷ bs) ≡ (b ∷ bs) ∷ [])
     (λ e l. let s : position_or_len cut bs ≡ length bs = omega arith in rw (not-true (cut b) e, pieces_whole cut bs s))
     (λ e l. absurd (omega arith))
     h
@@ -92,15 +77,15 @@ words_skip (b ∷ bs) h =
 first_piece :
     (xs : List ℕ)
     → (ps : List (List ℕ))
-    × (pieces blank xs ≡ take (position_or_len blank xs) xs ∷ ps)
+    × (slice_split blank xs ≡ take (position_or_len blank xs) xs ∷ ps)
     × (filled ps ≡ words (drop (position_or_len blank xs) xs))
 first_piece [] = ([], refl, refl)
 first_piece (b ∷ bs) =
     let more = first_piece bs in
     cond_both (not (blank b)) (1 + position_or_len blank bs) 0
-    (λ n. (ps : List (List ℕ)) × (pieces blank (b ∷ bs) ≡ take n (b ∷ bs) ∷ ps) × (filled ps ≡ words (drop n (b ∷ bs))))
+    (λ n. (ps : List (List ℕ)) × (slice_split blank (b ∷ bs) ≡ take n (b ∷ bs) ∷ ps) × (filled ps ≡ words (drop n (b ∷ bs))))
     (λ e. let f = not-true (blank b) e in (more.0, rw (f, more.1, one-add), rw one-add more.2))
-    (λ e. let f = not-false (blank b) e in (pieces blank bs, rw f, sym (words_blank b bs f)))
+    (λ e. let f = not-false (blank b) e in (slice_split blank bs, rw f, sym (words_blank b bs f)))
 
 -- a piece that is not empty is kept
 filled_kept : (p : List ℕ) (ps : List (List ℕ)) → 0 < length p → filled (p ∷ ps) ≡ p ∷ filled ps

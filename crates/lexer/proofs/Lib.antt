@@ -1,2 +1,2 @@
-pub mod Cuts
+mod Cuts
 mod Values

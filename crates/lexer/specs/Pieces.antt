@@ -1,6 +1,7 @@
 -- How a text falls into lines, and a line into words.
-use Rattle.std.specs.Prelude.{ℕ, Bool, cond, not, ◌&&◌, ◌||◌, List, [], ◌∷◌, take, ◌==◌, nat_le}
-use Rattle.std.specs.List.{prefix_len}
+use Rattle.std.specs.Prelude.{ℕ, Bool, not, ◌&&◌, ◌||◌, List, [], ◌∷◌, take, ◌==◌, nat_le, Some, None, Option}
+use Rattle.std.specs.Borrow.{Bor}
+use Rattle.std.specs.List.{prefix_len, slice_split}
 
 -- a line feed ends a line
 abbrev pub newline : ℕ → Bool
@@ -14,30 +15,25 @@ blank b = b == 32 || (b == 9 || b == 13)
 abbrev pub printable : ℕ → Bool
 printable b = (nat_le 32 b && nat_le b 126) || blank b
 
--- one byte more at the front of the first piece
-abbrev pub onto : ℕ → List (List ℕ) → List (List ℕ)
-onto b [] = (b ∷ []) ∷ []
-onto b (p ∷ ps) = (b ∷ p) ∷ ps
-
--- cut at each byte that passes, which belongs to no piece: n cuts give n + 1 pieces
-abbrev pub pieces : (ℕ → Bool) → List ℕ → List (List ℕ)
-pieces cut [] = [] ∷ []
-pieces cut (b ∷ bs) = cond (cut b) ([] ∷ pieces cut bs) (onto b (pieces cut bs))
-
 -- the pieces that are not empty
 abbrev pub filled : List (List ℕ) → List (List ℕ)
 filled [] = []
 filled ([] ∷ ps) = filled ps
 filled ((b ∷ p) ∷ ps) = (b ∷ p) ∷ filled ps
 
--- the lines of a text
+-- the lines of a text: n line feeds give n + 1 lines
 abbrev pub lines : List ℕ → List (List ℕ)
-lines text = pieces newline text
+lines text = slice_split newline text
 
--- the words of a line
+-- the words of a line: what stands between blanks
 abbrev pub words : List ℕ → List (List ℕ)
-words line = filled (pieces blank line)
+words line = filled (slice_split blank line)
 
 -- a line without its comment, which begins at the first '#'
 abbrev pub uncommented : List ℕ → List ℕ
 uncommented line = take (prefix_len (λ b. not (b == 35)) line) line
+
+-- the lines of the text that is left, and none once the last was read
+abbrev pub lines_of : Option (Bor (List ℕ)) → List (List ℕ)
+lines_of None = []
+lines_of (Some text) = lines text.now

@@ -1,8 +1,9 @@
 ghost use Rattle.std.specs.Prelude.{◌≡◌};
+ghost use Rattle.std.specs.List.{list_all};
 ghost use Rattle.std.specs.Iterator.{YieldsFirstRef, item_count};
-ghost use Rattle.lexer.specs.Left.{lines_left, words_left};
-ghost use Rattle.lists.specs.Every.{all};
 ghost use Rattle.lexer.specs.Pieces.{blank, printable, lines, words, uncommented};
+
+use std::marker::Model;
 
 /// The lines of a text that are still to be read, without their line feeds.
 #[derive(Drop)]
@@ -25,7 +26,7 @@ fn is_blank(byte: u8) -> bool
 
 /// Whether a line is text: printable ASCII and blanks.
 pub fn is_text(line: &[u8]) -> bool
-    ensures value { result ≡ all printable line.now }
+    ensures value { result ≡ list_all printable line.now }
 {
     line.iter()
         .all(|byte| matches!(*byte, b' '..=b'~') || is_blank(*byte))
@@ -42,7 +43,7 @@ pub fn without_comment(line: &[u8]) -> &[u8]
 impl<'a> Lines<'a> {
     /// All lines of a text.
     pub fn of(text: &'a [u8]) -> Lines<'a>
-        ensures all_left { lines_left result ≡ lines text.now }
+        ensures all_left { result ≡ lines text.now }
     {
         Lines { rest: Some(text) }
     }
@@ -51,9 +52,9 @@ impl<'a> Lines<'a> {
 impl<'a> Iterator for Lines<'a> {
     type Item = &'a [u8];
 
-    ghost next_gives = { YieldsFirstRef lines_left };
+    ghost next_gives = { YieldsFirstRef (λ l. l) };
 
-    ghost remaining = { item_count lines_left };
+    ghost remaining = { item_count (λ l. l) };
 
     /// The next line, or none after the last.
     fn next(&mut self) -> Option<&'a [u8]> {
@@ -68,10 +69,30 @@ impl<'a> Iterator for Lines<'a> {
     }
 }
 
+/// Lines are seen as the lines that are left.
+impl<'a> Model for Lines<'a> {
+    ghost use Rattle.std.specs.Prelude.{ℕ, List};
+    ghost use Rattle.lexer.specs.Pieces.{lines_of};
+
+    ghost Value = { List (List ℕ) };
+
+    ghost view = { λ l. lines_of l.rest };
+}
+
+/// Words are seen as the words that are left.
+impl<'a> Model for Words<'a> {
+    ghost use Rattle.std.specs.Prelude.{ℕ, List};
+    ghost use Rattle.lexer.specs.Pieces.{words};
+
+    ghost Value = { List (List ℕ) };
+
+    ghost view = { λ w. words w.rest.now };
+}
+
 impl<'a> Words<'a> {
     /// All words of a line.
     pub fn of(line: &'a [u8]) -> Words<'a>
-        ensures all_left { words_left result ≡ words line.now }
+        ensures all_left { result ≡ words line.now }
     {
         Words { rest: line }
     }
@@ -80,9 +101,9 @@ impl<'a> Words<'a> {
 impl<'a> Iterator for Words<'a> {
     type Item = &'a [u8];
 
-    ghost next_gives = { YieldsFirstRef words_left };
+    ghost next_gives = { YieldsFirstRef (λ w. w) };
 
-    ghost remaining = { item_count words_left };
+    ghost remaining = { item_count (λ w. w) };
 
     /// The next word, or none after the last.
     fn next(&mut self) -> Option<&'a [u8]> {

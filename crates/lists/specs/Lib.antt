@@ -1,1 +1,4 @@
-pub mod Every
+pub mod Answers
+pub mod Arrays
+pub mod Elements
+pub mod Parts

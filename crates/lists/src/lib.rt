@@ -1,2 +1,2 @@
-// Definitions and lemmas on lists that several crates cite. It holds no code.
+// Laws of lists and of answers that several crates cite. It holds no code.
 #![tactic(auto)]

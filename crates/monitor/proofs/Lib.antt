@@ -1,6 +1,4 @@
-pub mod Changed
-pub mod Steadying
-pub mod Wanted
-pub mod Inspected
-pub mod Fresh
-pub mod Formatted
+mod Tests
+mod Fresh
+mod Formatted
+mod Made

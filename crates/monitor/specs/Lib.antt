@@ -1,6 +1,5 @@
-pub mod Held
+pub mod Slips
 pub mod Stages
-pub mod Standing
 pub mod Machine
 pub mod Asking
 pub mod Changing

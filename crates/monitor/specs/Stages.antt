@@ -18,3 +18,7 @@ admitted Dark Starting = Ok tt
 admitted Shut Working = refused reason.Shut 0
 admitted Open Working = Ok tt
 admitted Dark Working = Err (lost_at at.Dark)
+
+-- a call that works with the books is admitted
+abbrev pub may_work : Stage → Result (Unit {0}) Refusal
+may_work st = admitted st Working

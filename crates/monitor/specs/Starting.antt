@@ -1,5 +1,6 @@
 -- What format and attach make of a monitor: s is the monitor before, t after.
-use Rattle.std.specs.Prelude.{◌≡◌, ℕ, ◌^◌, cond, ◌&&◌, ◌⊎◌, List, [], ◌∷◌, ◌++◌, length, replicate, Ok, Err, Result, MatchResult, ◌==◌, nat_le, nat_lt}
+use Rattle.std.specs.Prelude.{◌≡◌, ℕ, ◌^◌, not, ◌&&◌, List, [], ◌∷◌, ◌++◌, length, replicate, Ok, Err, Result, MatchResult, ◌==◌, nat_le, nat_lt, if◌then◌else◌}
+use Rattle.refusals.specs.declared.format_place.FormatPlace.{FormatPlace}
 use Rattle.refusals.specs.declared.format_place.FormatPlace.TheVariants as at
 use Rattle.refusals.specs.declared.power_place.PowerPlace.TheVariants as power
 use Rattle.refusals.specs.declared.reasons.Reason.TheVariants.{BadFormat, BadSize, InvalidOpening}
@@ -8,35 +9,34 @@ use Rattle.refusals.specs.Numbers.{number}
 use Rattle.refusals.specs.Places.{format_place_number}
 use Rattle.refusals.specs.Refused.{refused, lost_at}
 use Rattle.books.specs.Meaning.{Meaning}
-use Rattle.drives.specs.Calls.{Powered, Cut}
-use Rattle.drives.specs.Disk.{Disk, size}
+use Rattle.journals.specs.State.{State}
+use Rattle.journals.specs.Outcomes.{TurnedOn, StaysOff}
 use Rattle.journals.specs.Laying.{LaidDown, LaidHalf}
 use Rattle.rights.specs.Covers.{free}
 use Rattle.layout.specs.Head.{head_form}
 use Rattle.layout.specs.Roll.{first_words, last_words}
 use Rattle.layout.specs.Rounds.{CodesFit}
 use Rattle.image.specs.Home.{blocks_of_codes, blocks_of_rows}
-use Rattle.image.specs.Lawful.{lawful_size}
+use Rattle.image.specs.Layout.{lawful_size}
 use Rattle.judging.specs.Inspects.{Inspects}
 use Rattle.monitor.specs.declared.stage.Stage.{Stage}
 use Rattle.monitor.specs.declared.stage.Stage.TheVariants.{Shut, Open, Dark}
-use Rattle.monitor.specs.Machine.{Machine, Refuses}
+use Rattle.monitor.specs.Machine.{Machine, size_of, Refuses}
+
+-- an argument of format that is at fault (16)
+abbrev pub bad_format : FormatPlace → Result (Unit {0}) Refusal
+bad_format place = refused BadFormat (format_place_number place)
 
 -- format's tests: a house number that is not 0 and has four bytes (16, place 1), a roll of 128 bytes (2), an opening of 64
 -- codes (3), a lawful size (17), a valid opening (18)
 abbrev pub formattable : Meaning → ℕ → ℕ → List ℕ → List ℕ → Result (Unit {0}) Refusal
-formattable m n house roll opening =
-    cond (nat_le 1 house && nat_lt house (2 ^ 32))
-    (cond (length roll == 128)
-    (cond (length opening == 64)
-    (cond (lawful_size n)
-    (cond (m.valid opening)
-    (Ok tt)
-    (refused InvalidOpening 0))
-    (refused BadSize n))
-    (refused BadFormat (format_place_number at.Opening)))
-    (refused BadFormat (format_place_number at.Roll)))
-    (refused BadFormat (format_place_number at.House))
+formattable m size house roll opening =
+    if not (nat_le 1 house && nat_lt house (2 ^ 32)) then bad_format at.House
+    else if not (length roll == 128) then bad_format at.Roll
+    else if not (length opening == 64) then bad_format at.Opening
+    else if not (lawful_size size) then refused BadSize size
+    else if not (m.valid opening) then refused InvalidOpening 0
+    else Ok tt
 
 -- blocks 7 to 33 of a drive that was just formatted: the head, the opening as items and as opening items, free rows, the roll
 abbrev pub first_home : Meaning → ℕ → List ℕ → List ℕ → List (List ℕ)
@@ -48,34 +48,39 @@ first_home m house roll opening =
 -- power was turned on, and the blocks were laid down
 pub record FormatDone (xs : List (List ℕ)) (s t : Machine) : Type 0 where
   pub stage : t.stage ≡ Open
-  pub left : Disk
-  pub powered : Powered s.disk left
+  pub left : State
+  pub turned_on : TurnedOn s.disk left
   pub laid : LaidDown xs left t.disk
 
--- power was lost in the power call, or while the blocks were laid down
+-- where power was lost: in the power call, or while the blocks were laid down
+pub data FormatCut (xs : List (List ℕ)) (d e : State) : Type 0 where
+  in_powering : StaysOff d e → FormatCut xs d e
+  in_laying : {left : State} → TurnedOn d left → LaidHalf xs left e → FormatCut xs d e
+
 pub record FormatLost (xs : List (List ℕ)) (s : Machine) (e : Refusal) (t : Machine) : Type 0 where
   pub answer : e ≡ lost_at power.Starting
   pub stage : t.stage ≡ Dark
-  pub outcome : Cut s.disk t.disk ⊎ ((left : Disk) × Powered s.disk left × LaidHalf xs left t.disk)
+  pub cut : FormatCut xs s.disk t.disk
 
 -- power was turned on, and the blocks were laid down then, or power was lost on the way
 pub record LaysDownPowered (xs : List (List ℕ)) (s : Machine) (r : Result ℕ Refusal) (t : Machine) : Type 0 where
-  pub left : Disk
-  pub powered : Powered s.disk left
+  pub left : State
+  pub turned_on : TurnedOn s.disk left
   pub lays : MatchResult r (λ _. LaidDown xs left t.disk) (λ _. LaidHalf xs left t.disk)
 
+-- by the tests: refused, or begun
 abbrev pub Starts : List (List ℕ) → Result (Unit {0}) Refusal → Machine → Result ℕ Refusal → Machine → Type 0
 Starts xs (Err e) s r t = Refuses s e r t
 Starts xs (Ok _) s r t = MatchResult r (λ n. (n ≡ 0) × FormatDone xs s t) (λ e. FormatLost xs s e t)
 
 pub record Formats (m : Meaning) (s : Machine) (house : ℕ) (roll opening : List ℕ) (r : Result ℕ Refusal) (t : Machine) : Type 0 where
   pub fits : CodesFit opening
-  pub starts : Starts (first_home m house roll opening) (formattable m (size s.disk) house roll opening) s r t
+  pub starts : Starts (first_home m house roll opening) (formattable m (size_of s) house roll opening) s r t
 
 -- the stage that attach leaves: open if it accepts, dark if it lost power, else shut
 abbrev pub stage_after : Result ℕ Refusal → Stage
 stage_after (Ok n) = Open
-stage_after (Err e) = cond (number e.reason == 7) Dark Shut
+stage_after (Err e) = if number e.reason == 7 then Dark else Shut
 
 -- attach: what an inspection makes of the drive, and the stage by its answer
 pub record Attaches (m : Meaning) (s : Machine) (r : Result ℕ Refusal) (t : Machine) : Type 0 where

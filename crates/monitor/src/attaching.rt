@@ -1,8 +1,8 @@
 ghost use Rattle.std.specs.Prelude.{◌≡◌, true, Err};
-ghost use Rattle.drives.specs.Disk.{size};
-ghost use Rattle.image.specs.Lawful.{lawful_size};
+ghost use Rattle.journals.specs.State.{IsCertain};
+ghost use Rattle.image.specs.Layout.{lawful_size};
 ghost use Rattle.judging.specs.Inspects.{PoweredOn};
-ghost use Rattle.monitor.specs.Machine.{machine};
+ghost use Rattle.monitor.specs.Machine.{size_of};
 ghost use Rattle.monitor.specs.Starting.{stage_after, Attaches};
 
 use crate::monitor::Monitor;
@@ -26,8 +26,9 @@ fn stage_for(refusal: Refusal) -> Stage
 impl<D: Drive, B: Book> Monitor<D, B> {
     /// Turns power on, finishes what was cut, and opens the monitor if what stands then is a lawful image of its book.
     pub fn attach(&mut self) -> Result<u64, Refusal>
-        ensures attaches { Attaches B.meaning (machine self.old.stage (D.disk self.old.journal.drive)) result (machine self.new.stage (D.disk self.new.journal.drive)) }
-        ensures powers_up { D.powers_up self.old.journal.drive ≡ true → lawful_size (size (D.disk self.old.journal.drive)) ≡ true → PoweredOn B.meaning (D.disk self.old.journal.drive) result (D.disk self.new.journal.drive) }
+        ensures attaches { Attaches B.meaning self.old result self.new }
+        ensures powers_up { IsCertain self.old.disk → lawful_size (size_of self.old) ≡ true →
+            PoweredOn B.meaning self.old.disk result self.new.disk }
     {
         admit(self.stage, CallKind::Starting)?;
         match inspect(&mut self.journal, &self.book) {

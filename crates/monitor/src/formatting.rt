@@ -1,14 +1,14 @@
 ghost use Rattle.std.specs.Prelude.{◌≡◌, ◌^◌, ◌<◌, true, Ok, length};
-ghost use Rattle.drives.specs.Disk.{size};
-ghost use Rattle.image.specs.Lawful.{lawful_size};
-ghost use Rattle.monitor.specs.Machine.{machine};
+ghost use Rattle.journals.specs.State.{IsCertain};
+ghost use Rattle.image.specs.Layout.{lawful_size};
+ghost use Rattle.monitor.specs.Machine.{size_of};
 ghost use Rattle.monitor.specs.Starting.{formattable, first_home, Formats, LaysDownPowered};
 
 use crate::monitor::Monitor;
 use crate::stage::{CallKind, Stage, admit};
 use books::Book;
 use drives::Drive;
-use image::{codes_blocks, rows_blocks};
+use image::{codes_blocks, is_lawful_size, rows_blocks};
 use layout::{Head, head_block, roll_blocks};
 use refusals::{FormatPlace, PowerPlace, Reason, Refusal};
 use rights::Row;
@@ -36,7 +36,7 @@ fn check_format<B: Book>(
     if opening.len() != 64 {
         return Err(Refusal::at(Reason::BadFormat, FormatPlace::Opening.into()));
     }
-    if size < 35 || size > 1024 {
+    if !is_lawful_size(size) {
         return Err(Refusal::at(Reason::BadSize, size));
     }
     if !book.verify(opening) {
@@ -71,8 +71,11 @@ fn first_blocks<B: Book>(house: u32, roll: &[u8], opening: &[u64]) -> [[u8; 64];
 impl<D: Drive, B: Book> Monitor<D, B> {
     /// Begins the books anew: this house, this roll of 16 words, these opening items, no rows and no records.
     pub fn format(&mut self, house: u64, roll: &[u8], opening: &[u64]) -> Result<u64, Refusal>
-        ensures formats { Formats B.meaning (machine self.old.stage (D.disk self.old.journal.drive)) house roll.now opening.now result (machine self.new.stage (D.disk self.new.journal.drive)) }
-        ensures powers_up { D.powers_up self.old.journal.drive ≡ true → Ok tt ≡ formattable B.meaning (size (D.disk self.old.journal.drive)) house roll.now opening.now → LaysDownPowered (first_home B.meaning house roll.now opening.now) (machine self.old.stage (D.disk self.old.journal.drive)) result (machine self.new.stage (D.disk self.new.journal.drive)) }
+        ensures formats { Formats B.meaning self.old house roll.now opening.now result self.new }
+        ensures powers_up { IsCertain self.old.disk →
+            Ok tt ≡ formattable B.meaning (size_of self.old) house roll.now opening.now →
+            LaysDownPowered (first_home B.meaning house roll.now opening.now)
+            self.old result self.new }
     {
         admit(self.stage, CallKind::Starting)?;
         check_format(&self.book, self.journal.size(), house, roll, opening)?;

@@ -12,9 +12,7 @@ mod looking;
 mod making;
 mod monitor;
 mod posting;
-mod reading;
 mod slip;
-mod spending;
 mod stage;
 
 pub use entered::Entered;

@@ -1,13 +1,11 @@
 ghost use Rattle.std.specs.Prelude.{◌≡◌, ◌&&◌, nat_le};
 ghost use Rattle.monitor.specs.Asking.{item_seen, record_seen};
-ghost use Rattle.monitor.specs.Machine.{machine};
 
 use crate::monitor::Monitor;
-use crate::reading::Reader;
 use crate::stage::{CallKind, admit};
 use books::Book;
 use drives::Drive;
-use records::{Record, decode};
+use records::Record;
 use refusals::{Reason, Refusal};
 
 /// Whether a record of this number is counted.
@@ -20,30 +18,23 @@ fn is_counted(number: u64, count: u32) -> bool
 impl<D: Drive, B: Book> Monitor<D, B> {
     /// The code of an item.
     pub fn item(&self, item: u64) -> Result<u64, Refusal>
-        ensures answer { result ≡ item_seen (machine self.now.stage (D.disk self.now.journal.drive)) item }
+        ensures answer { result ≡ item_seen self.now item }
     {
-        admit(self.stage, CallKind::Working)?;
-        let reader = Reader {
-            journal: &self.journal,
-        };
-        if item >= 64 {
-            return Err(Refusal::at(Reason::NoSuchEntry, item));
-        }
-        Ok(reader.code(item))
+        admit(self.stage(), CallKind::Working)?;
+        let none = Refusal::at(Reason::NoSuchEntry, item);
+        self.reader().code(item).ok_or(none)
     }
 
     /// A record of the audit, by its number.
     pub fn record(&self, number: u64) -> Result<Record, Refusal>
-        ensures answer { result ≡ record_seen (machine self.now.stage (D.disk self.now.journal.drive)) number }
+        ensures answer { result ≡ record_seen self.now number }
     {
-        admit(self.stage, CallKind::Working)?;
-        let reader = Reader {
-            journal: &self.journal,
-        };
+        admit(self.stage(), CallKind::Working)?;
+        let reader = self.reader();
         let none = Refusal::at(Reason::NoSuchEntry, number);
         if !is_counted(number, reader.head().count) {
             return Err(none);
         }
-        decode(&reader.block(33 + number), number as u32).ok_or(none)
+        reader.record(number as u32).ok_or(none)
     }
 }

@@ -1,13 +1,9 @@
-ghost use Rattle.std.specs.Prelude.{◌≡◌, ◌+◌, ◌<◌, MatchResult};
-ghost use Rattle.drives.specs.Disk.{size};
-ghost use Rattle.journals.specs.Redo.{home};
-ghost use Rattle.layout.specs.Head.{fields_of_head};
+ghost use Rattle.std.specs.Prelude.{◌≡◌, ◌<◌};
 ghost use Rattle.carrying.specs.Standing.{standing_of};
-ghost use Rattle.image.specs.Home.{at};
-ghost use Rattle.image.specs.Lawful.{room};
-ghost use Rattle.monitor.specs.Calls.{power_place_of, Acknowledged, LostPower};
+ghost use Rattle.image.specs.Home.{head_on};
+ghost use Rattle.monitor.specs.Calls.{power_place_of, Makes};
 ghost use Rattle.monitor.specs.Changing.{change_for, Within};
-ghost use Rattle.monitor.specs.Machine.{machine};
+ghost use Rattle.monitor.specs.Machine.{home_of, room_of};
 ghost use Rattle.monitor.specs.declared.stage.Stage.TheVariants.{Open};
 
 use crate::changing::change_of;
@@ -36,11 +32,13 @@ impl<D: Drive, B: Book> Monitor<D, B> {
     /// Makes the change of a record, of an open monitor with this head, where the record leaves the books like this.
     pub(crate) fn make(&mut self, head: Head, entry: Record, held: &Held) -> Result<u64, Refusal>
         requires open { self.old.stage ≡ Open }
-        requires head { head ≡ fields_of_head (at (home (D.disk self.old.journal.drive).blocks) 7) }
-        requires room { head.count < room (size (D.disk self.old.journal.drive)) }
+        requires head { head ≡ head_on (home_of self.old) }
+        requires room { head.count < room_of self.old }
         requires within { Within entry }
-        ensures makes { MatchResult result (λ n. Acknowledged (change_for head entry (standing_of held.now)) (machine self.old.stage (D.disk self.old.journal.drive)) n (machine self.new.stage (D.disk self.new.journal.drive))) (λ e. LostPower (change_for head entry (standing_of held.now)) (machine self.old.stage (D.disk self.old.journal.drive)) e (machine self.new.stage (D.disk self.new.journal.drive))) }
+        ensures makes { Makes (change_for head entry (standing_of held.now))
+            self.old result self.new }
     {
+        let _ = &self.journal;
         let change = change_of(head, entry, held);
         match self.journal.change(&change) {
             Ok(()) => Ok(u64::from(head.count) + 1),

@@ -1,24 +1,22 @@
 ghost use Rattle.std.specs.Prelude.{◌≡◌, ◌<◌, ◌&&◌, ◌==◌, OnOk};
-ghost use Rattle.drives.specs.Disk.{size};
-ghost use Rattle.journals.specs.Redo.{home};
-ghost use Rattle.carrying.specs.Carried.{posted};
+ghost use Rattle.journals.specs.State.{size, home_of};
+ghost use Rattle.carrying.specs.Carried.{posted as posted-on, posting_of as posting-of};
 ghost use Rattle.carrying.specs.Results.{Gives};
-ghost use Rattle.image.specs.Home.{count_on};
-ghost use Rattle.image.specs.Lawful.{room};
-ghost use Rattle.monitor.specs.Calls.{posting_of as of-slip, own_slip, Countersigns};
-ghost use Rattle.monitor.specs.Changing.{standing_on};
-ghost use Rattle.monitor.specs.Held.{entered_of};
-ghost use Rattle.monitor.specs.Machine.{machine};
+ghost use Rattle.image.specs.Home.{standing_with};
+ghost use Rattle.image.specs.Layout.{room};
+ghost use Rattle.monitor.specs.Calls.{own_slip, Countersigns};
 
 use crate::entered::Entered;
+use crate::entering::identify;
 use crate::monitor::Monitor;
-use crate::reading::Reader;
 use crate::slip::Slip;
 use crate::stage::{CallKind, admit};
 use books::Book;
 use carrying::Held;
 use drives::Drive;
-use records::{Posting, Record};
+use image::Reader;
+use layout::Head;
+use records::Record;
 use refusals::{Reason, Refusal};
 
 /// Whether a slip is of this book and house.
@@ -38,48 +36,39 @@ fn check_slip<B: Book>(house: u32, slip: Entered) -> Result<(), Refusal>
     Ok(())
 }
 
-/// What the record of a slip says that a user countersigns.
-fn posting_of(slip: Entered, countersigner: u8) -> Posting
-    ensures value { result ≡ of-slip slip countersigner }
+/// What the books hold after a slip is posted on what they hold now, or the refusal that it earns.
+fn posted<D: Drive, B: Book>(
+    reader: &Reader<D>,
+    book: &B,
+    head: Head,
+    slip: &Slip,
+    countersigner: u8,
+) -> Result<Held, Refusal>
+    ensures gives { Gives (posted-on B.meaning (room (size reader.now))
+        (standing_with (home_of reader.now) head.count)
+        (posting-of slip.now.entered.numbers slip.now.entered.enterer countersigner)) result }
+    ensures had_room { OnOk result (head.count < room (size reader.now)) }
 {
-    Posting {
-        enterer: slip.enterer,
-        countersigner,
-        procedure: slip.numbers.procedure,
-        a: slip.numbers.a,
-        b: slip.numbers.b,
-        amount: slip.numbers.amount,
-    }
-}
-
-impl<'a, D: Drive> Reader<'a, D> {
-    /// What the books hold after a posting on what they hold now, or the refusal that it earns.
-    fn posted<B: Book>(&self, book: &B, count: u32, posting: Posting) -> Result<Held, Refusal>
-        requires counted { count ≡ count_on (home (D.disk self.now.journal.now.drive).blocks) }
-        ensures gives { Gives (posted B.meaning (room (size (D.disk self.now.journal.now.drive))) (standing_on (home (D.disk self.now.journal.now.drive).blocks)) posting.enterer posting.countersigner posting.procedure posting.a posting.b posting.amount) result }
-        ensures had_room { OnOk result (count < room (size (D.disk self.now.journal.now.drive))) }
-    {
-        let mut held = self.held(count);
-        held.post(book, posting)?;
-        Ok(held)
-    }
+    let mut held = reader.held(head);
+    slip.post(book, &mut held, countersigner)?;
+    Ok(held)
 }
 
 impl<D: Drive, B: Book> Monitor<D, B> {
     /// Posts a slip, countersigned by a second person: two codes and one record, in one change. Refused, the slip is void.
     pub fn countersign(&mut self, user: u64, word: &[u8], slip: Slip) -> Result<u64, Refusal>
-        ensures countersigns { Countersigns B.meaning (machine self.old.stage (D.disk self.old.journal.drive)) user word.now (entered_of slip) result (machine self.new.stage (D.disk self.new.journal.drive)) }
+        ensures countersigns { Countersigns B.meaning self.old user word.now slip.entered
+            result self.new }
     {
-        let entered = slip.withdraw();
-        admit(self.stage, CallKind::Working)?;
-        let reader = Reader {
-            journal: &self.journal,
-        };
+        let mut slip = slip;
+        slip.spend();
+        let entered = slip.entered();
+        admit(self.stage(), CallKind::Working)?;
+        let reader = self.reader();
         let head = reader.head();
         check_slip::<B>(head.house, entered)?;
-        reader.identify(user, word)?;
-        let posting = posting_of(entered, user as u8);
-        let held = reader.posted(&self.book, head.count, posting)?;
-        self.make(head, Record::Posting(posting), &held)
+        identify(&reader, user, word)?;
+        let held = posted(&reader, self.book(), head, &slip, user as u8)?;
+        self.make(head, Record::Posting(slip.posting(user as u8)), &held)
     }
 }

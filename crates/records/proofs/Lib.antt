@@ -1,1 +1,1 @@
-pub mod Back
+mod Filtered

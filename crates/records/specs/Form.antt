@@ -1,17 +1,19 @@
 -- The one form of an audit record: 64 bytes.
-use Rattle.std.specs.Prelude.{◌≡◌, ℕ, ◌^◌, ◌<◌, Bool, cond, ◌||◌, List, ◌∷◌, ◌++◌, replicate, Some, None, Option, ◌==◌, slice_index}
+use Rattle.std.specs.Prelude.{◌≡◌, ℕ, ◌^◌, ◌<◌, Bool, ◌||◌, List, ◌∷◌, ◌++◌, replicate, Some, None, Option, ◌≢◌, ◌==◌, if◌then◌else◌, slice_index, option_and_then}
+use Rattle.std.specs.Int.{w32, w64, to_le_bytes}
 use Rattle.std.specs.Str.{bytes_eq}
-use Rattle.encoding.specs.Numbers.{four_bytes, eight_bytes, eight_from}
+use Rattle.encoding.specs.Numbers.{number_at}
 use Rattle.records.specs.declared.kind.Kind.{Kind}
 use Rattle.records.specs.declared.kind.Kind.TheVariants as kind
+use Rattle.records.specs.declared.fields.Fields.{Fields}
 use Rattle.records.specs.declared.record.Record.{Record}
 use Rattle.records.specs.declared.record.Record.TheVariants.{Posting, Certification, Strike}
 
 -- kind, first user, second user, procedure, role, row, a and b in a byte each, then n, mask and record number, then zeros
-abbrev pub form : ℕ → ℕ → ℕ → ℕ → ℕ → ℕ → ℕ → ℕ → ℕ → ℕ → ℕ → List ℕ
-form kind first second procedure role row a b n mask number =
-    kind ∷ (first ∷ (second ∷ (procedure ∷ (role ∷ (row ∷ (a ∷ (b
-    ∷ (eight_bytes n ++ (eight_bytes mask ++ (four_bytes number ++ replicate 36 0))))))))))
+abbrev pub form : Fields → ℕ → List ℕ
+form f number =
+    f.kind ∷ (f.first ∷ (f.second ∷ (f.procedure ∷ (f.role ∷ (f.row ∷ (f.a ∷ (f.b
+    ∷ (to_le_bytes w64 f.amount ++ (to_le_bytes w64 f.mask ++ (to_le_bytes w32 number ++ replicate 36 0))))))))))
 
 -- the number of a kind of record
 abbrev pub kind_number : Kind → ℕ
@@ -23,11 +25,37 @@ kind_number kind.Strike = 3
 abbrev pub is_kind : ℕ → Bool
 is_kind n = n == 1 || (n == 2 || n == 3)
 
+-- no field is filled
+abbrev pub nothing_filled : Fields
+nothing_filled =
+    record { kind = 0; first = 0; second = 0; procedure = 0; role = 0; row = 0; a = 0; b = 0; amount = 0; mask = 0 }
+
 -- a posting is kind 1, a certification 2, a strike 3; what a kind does not fill is zero
+abbrev pub fields_of : Record → Fields
+fields_of (Posting p) =
+    record nothing_filled {
+      kind = 1;
+      first = p.enterer;
+      second = p.countersigner;
+      procedure = p.procedure;
+      a = p.a;
+      b = p.b;
+      amount = p.amount;
+    }
+fields_of (Certification c) =
+    record nothing_filled {
+      kind = 2;
+      first = c.user;
+      procedure = c.procedure;
+      role = c.role;
+      row = c.row;
+      mask = c.mask;
+    }
+fields_of (Strike w) = record nothing_filled { kind = 3; row = w }
+
+-- the block of a record with its number
 abbrev pub encoded : ℕ → Record → List ℕ
-encoded number (Posting p) = form 1 p.enterer p.countersigner p.procedure 0 0 p.a p.b p.amount 0 number
-encoded number (Certification c) = form 2 c.user 0 c.procedure c.role c.row 0 0 0 c.mask number
-encoded number (Strike row) = form 3 0 0 0 0 row 0 0 0 0 number
+encoded number x = form (fields_of x) number
 
 -- the amount or mask is of 64 bits
 abbrev pub Fits : Record → Type 0
@@ -35,27 +63,35 @@ Fits (Posting p) = p.amount < 2 ^ 64
 Fits (Certification c) = c.mask < 2 ^ 64
 Fits (Strike row) = Unit {0}
 
--- the record that a block's fields give, whatever its other bytes hold
-abbrev pub parsed : List ℕ → Option Record
-parsed c =
-    cond (slice_index c 0 == 1)
-    (Some (Posting (record {
+-- the posting that a block's fields give, and the certification
+abbrev pub posting_in : List ℕ → Record
+posting_in c =
+    Posting (record {
       enterer = slice_index c 1;
       countersigner = slice_index c 2;
       procedure = slice_index c 3;
       a = slice_index c 6;
       b = slice_index c 7;
-      amount = eight_from c 8;
-    })))
-    (cond (slice_index c 0 == 2)
-    (Some (Certification (record {
+      amount = number_at w64 c 8;
+    })
+
+abbrev pub certification_in : List ℕ → Record
+certification_in c =
+    Certification (record {
       user = slice_index c 1;
       procedure = slice_index c 3;
       role = slice_index c 4;
       row = slice_index c 5;
-      mask = eight_from c 16;
-    })))
-    (cond (slice_index c 0 == 3) (Some (Strike (slice_index c 5))) None))
+      mask = number_at w64 c 16;
+    })
+
+-- the record that a block's fields give, whatever its other bytes hold
+abbrev pub parsed : List ℕ → Option Record
+parsed c =
+    if slice_index c 0 == 1 then Some (posting_in c)
+    else if slice_index c 0 == 2 then Some (certification_in c)
+    else if slice_index c 0 == 3 then Some (Strike (slice_index c 5))
+    else None
 
 -- an encoded record is read back from its block
 abbrev pub ReadBack : Type 0
@@ -66,14 +102,17 @@ pub record Exact (number : ℕ) (x : Record) (c : List ℕ) : Type 0 where
   pub fits : Fits x
   pub form : encoded number x ≡ c
 
+-- a block is no record's form, with this number
+abbrev pub IsNoForm : ℕ → List ℕ → Type 0
+IsNoForm number c = (x : Record) → Fits x → encoded number x ≢ c
+
 -- the record, if the block is its form
-abbrev pub if_form : ℕ → List ℕ → Option Record → Option Record
-if_form number c None = None
-if_form number c (Some x) = cond (bytes_eq (encoded number x) c) (Some x) None
+abbrev pub if_form : ℕ → List ℕ → Record → Option Record
+if_form number c x = if bytes_eq (encoded number x) c then Some x else None
 
 -- the record whose exact form the block is, with this number; none where it is no record's
 abbrev pub decoded : ℕ → List ℕ → Option Record
-decoded number c = if_form number c (parsed c)
+decoded number c = option_and_then (if_form number c) (parsed c)
 
 -- an encoded record is read back from its block, what is read is what the block is the form of, and a block from which
 -- nothing is read is no record's form

@@ -1,32 +1,18 @@
-ghost use Rattle.std.specs.Prelude.{◌≡◌, MatchOption, ◌≢◌};
-ghost use Rattle.records.specs.declared.record.Record.{Record as Entry};
-ghost use Rattle.records.specs.Form.{form, kind_number, encoded, parsed, decoded, Fits, ReadBack, OneForm};
+ghost use Rattle.std.specs.Prelude.{◌≡◌, MatchOption};
+ghost use Rattle.records.specs.Form.{form, encoded, parsed, decoded, IsNoForm, ReadBack, OneForm};
 
+use crate::fields::Fields;
 use crate::kind::Kind;
 use crate::record::{Certification, Posting, Record};
 use encoding::eight_at;
 
-/// What a record's block holds between its kind and its number. What a kind does not fill is zero.
-#[derive(Clone, Copy, Default)]
-struct Fields {
-    first: u8,
-    second: u8,
-    procedure: u8,
-    role: u8,
-    row: u8,
-    a: u8,
-    b: u8,
-    amount: u64,
-    mask: u64,
-}
-
 /// A record's block, from its fields.
-fn lay_out(kind: Kind, fields: Fields, number: u32) -> [u8; 64]
-    ensures value { result ≡ form (kind_number kind) fields.first fields.second fields.procedure fields.role fields.row fields.a fields.b fields.amount fields.mask number }
+fn lay_out(fields: Fields, number: u32) -> [u8; 64]
+    ensures value { result ≡ form fields number }
 {
     // Each byte at its place: this list is the format.
     let mut block = [0; 64];
-    block[0] = u8::from(kind);
+    block[0] = fields.kind;
     block[1] = fields.first;
     block[2] = fields.second;
     block[3] = fields.procedure;
@@ -44,38 +30,7 @@ fn lay_out(kind: Kind, fields: Fields, number: u32) -> [u8; 64]
 pub fn encode(entry: Record, number: u32) -> [u8; 64]
     ensures value { result ≡ encoded number entry }
 {
-    match entry {
-        Record::Posting(posting) => {
-            let fields = Fields {
-                first: posting.enterer,
-                second: posting.countersigner,
-                procedure: posting.procedure,
-                a: posting.a,
-                b: posting.b,
-                amount: posting.amount,
-                ..Fields::default()
-            };
-            lay_out(Kind::Posting, fields, number)
-        }
-        Record::Certification(certification) => {
-            let fields = Fields {
-                first: certification.user,
-                procedure: certification.procedure,
-                role: certification.role,
-                row: certification.row,
-                mask: certification.mask,
-                ..Fields::default()
-            };
-            lay_out(Kind::Certification, fields, number)
-        }
-        Record::Strike { row } => {
-            let fields = Fields {
-                row,
-                ..Fields::default()
-            };
-            lay_out(Kind::Strike, fields, number)
-        }
-    }
+    lay_out(Fields::from(entry), number)
 }
 
 /// The record that a block's fields give, whatever its other bytes hold.
@@ -104,7 +59,8 @@ fn parse(block: &[u8; 64]) -> Option<Record>
 
 /// The record whose exact form the block is, with this number; none where it is no record's.
 pub fn decode(block: &[u8; 64], number: u32) -> Option<Record>
-    ensures decodes { MatchOption result ((x : Entry) → Fits x → encoded number x ≢ block.now) (λ x. encoded number x ≡ block.now) }
+    ensures decodes { MatchOption result (IsNoForm number block.now)
+        (λ x. encoded number x ≡ block.now) }
     ensures value { result ≡ decoded number block.now }
 {
     parse(block).filter(|entry| encode(*entry, number) == *block)

@@ -26,7 +26,8 @@ impl From<Kind> for u8 {
 impl TryFrom<u8> for Kind {
     type Error = NoSuchKind;
 
-    ghost try_from_gives = { λ n r. MatchResult r (λ k. kind_number k ≡ n) (λ _. is_kind n ≡ false) };
+    ghost try_from_gives = { λ n r.
+        MatchResult r (λ k. kind_number k ≡ n) (λ _. is_kind n ≡ false) };
 
     fn try_from(number: u8) -> Result<Kind, NoSuchKind> {
         match number {

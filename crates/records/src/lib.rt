@@ -2,6 +2,7 @@
 #![tactic(auto)]
 
 mod codec;
+mod fields;
 mod kind;
 mod record;
 mod text;

@@ -4,3 +4,4 @@ pub mod Rules
 pub mod Places
 pub mod Texts
 pub mod Refused
+pub mod Laws

@@ -1,5 +1,5 @@
 -- A refusal as an answer, and tests one after another.
-use Rattle.std.specs.Prelude.{ℕ, Ok, Err, Result}
+use Rattle.std.specs.Prelude.{ℕ, Bool, true, false, Ok, Err, Result}
 use Rattle.refusals.specs.declared.reasons.Reason.{Reason}
 use Rattle.refusals.specs.declared.reasons.Reason.TheVariants.{PowerLost}
 use Rattle.refusals.specs.declared.power_place.PowerPlace.{PowerPlace}
@@ -14,7 +14,13 @@ lost_at place = record { reason = PowerLost; place = power_place_number place }
 abbrev pub refused : {X : Type 0} → Reason → ℕ → Result X Refusal
 refused why place = Err (record { reason = why; place = place })
 
--- what comes next where nothing was refused; a refusal ends it
-abbrev pub and_then : {X Y : Type 0} → Result X Refusal → (X → Result Y Refusal) → Result Y Refusal
-and_then (Ok x) next = next x
-and_then (Err e) next = Err e
+-- a `do` of answers: what comes next where nothing was refused; a refusal ends it
+infixl 10 ◌>>=◌
+abbrev pub ◌>>=◌ : {X Y : Type 0} → Result X Refusal → (X → Result Y Refusal) → Result Y Refusal
+(Ok x) >>= next = next x
+(Err e) >>= next = Err e
+
+infixl 10 ◌>>◌
+abbrev pub ◌>>◌ : {X Y : Type 0} → Result X Refusal → Result Y Refusal → Result Y Refusal
+(Ok x) >> next = next
+(Err e) >> next = Err e

@@ -1,5 +1,6 @@
 -- Who may do what: the rows of the rights table.
-use Rattle.std.specs.Prelude.{ℕ, ◌/◌, ◌%◌, ◌^◌, Bool, false, cond, ◌&&◌, ◌||◌, List, [], ◌∷◌, Some, None, Option, ◌==◌}
+use Rattle.std.specs.Prelude.{◌≡◌, ℕ, ◌/◌, ◌%◌, ◌^◌, ◌<◌, Bool, true, not, ◌&&◌, ◌||◌, List, length, Some, None, Option, ◌==◌, if◌then◌else◌, slice_index_or}
+use Rattle.std.specs.List.{list_any}
 use Rattle.rights.specs.declared.row.Row.{Row}
 use Rattle.rights.specs.declared.row.Asked.{Asked}
 use Rattle.rights.specs.declared.row.Role.{Role}
@@ -33,9 +34,15 @@ is_free w = (w.user == 0 && w.procedure == 0) && (w.role == 0 && w.mask == 0)
 
 -- some row covers the item
 abbrev pub covered : List Row → Asked → ℕ → Bool
-covered [] q i = false
-covered (w ∷ ws) q i = covers w q i || covered ws q i
+covered rows q i = list_any (λ w. covers w q i) rows
+
+-- row k is there, and covers the item
+abbrev pub CoversAt : List Row → Asked → ℕ → ℕ → Type 0
+CoversAt rows q i k = (k < length rows) × (covers (slice_index_or rows k free) q i ≡ true)
 
 -- the first of two items that no row covers; none if the user is entitled to both
 abbrev pub uncovered : List Row → Asked → ℕ → ℕ → Option ℕ
-uncovered rows q a b = cond (covered rows q a) (cond (covered rows q b) None (Some b)) (Some a)
+uncovered rows q a b =
+    if not (covered rows q a) then Some a
+    else if not (covered rows q b) then Some b
+    else None

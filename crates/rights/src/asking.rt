@@ -1,5 +1,5 @@
-ghost use Rattle.std.specs.Prelude.{◌≡◌, ◌<◌, true, length, is_some, IfSome, None, slice_index_or};
-ghost use Rattle.rights.specs.Covers.{has_item, covers, free, is_free, covered, uncovered};
+ghost use Rattle.std.specs.Prelude.{◌≡◌, ◌<◌, true, is_some, IfSome, None};
+ghost use Rattle.rights.specs.Covers.{has_item, covers, CoversAt, is_free, covered, uncovered};
 
 use crate::row::{Asked, Row};
 
@@ -35,9 +35,9 @@ impl Row {
 pub fn covering_row(rows: &[Row], asked: Asked, item: u64) -> Option<usize>
     ensures found_if_any { is_some result ≡ covered rows.now asked item }
     ensures item_within { is_some result ≡ true → item < 64 }
-    ensures covers_item { IfSome result (λ k. (k < length rows.now) × (covers (slice_index_or rows.now k free) asked item ≡ true)) }
+    ensures covers_item { IfSome result (CoversAt rows.now asked item) }
 {
-    // The row question is asked by a `for` with the index, left at a row that covers: so the project has it.
+    // The row question is asked by a `for` with the index, left at a row that covers: the form is wanted.
     for (k, row) in rows.iter().enumerate() {
         if row.covers(asked, item) {
             return Some(k);

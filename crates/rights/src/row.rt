@@ -27,7 +27,8 @@ impl From<Role> for u8 {
 impl TryFrom<u64> for Role {
     type Error = NoSuchRole;
 
-    ghost try_from_gives = { λ n r. MatchResult r (λ x. role_number x ≡ n) (λ _. is_role n ≡ false) };
+    ghost try_from_gives = { λ n r.
+        MatchResult r (λ x. role_number x ≡ n) (λ _. is_role n ≡ false) };
 
     fn try_from(number: u64) -> Result<Role, NoSuchRole> {
         match number {

@@ -2,14 +2,15 @@
 use Rattle.std.proofs.Common.{ℕ, ◌+◌, ◌≤◌, Bool, List, ◌++◌, length, Option, Some, arith}
 use Rattle.std.proofs.lemmas.List.Splits.{length-slice_split}
 use Rattle.std.proofs.lemmas.List.Sums.{count_by-le-length}
-use Rattle.lexer.specs.Pieces.{pieces}
-use Rattle.lexer.proofs.Cuts.{pieces_are_parts}
-use Rattle.script.specs.Grammar.{then}
+use Rattle.std.specs.List.{slice_split}
+use Rattle.script.specs.Options.{◌>>=◌}
 
 -- numbers with some before them
 abbrev pub after : List ℕ → Option (List ℕ) → Option (List ℕ)
-after ns more = then more (λ ms. Some (ns ++ ms))
+after ns more = do
+  ms ← more
+  Some (ns ++ ms)
 
 -- no more pieces than bytes, and one
-pub pieces_few : (cut : ℕ → Bool) (bs : List ℕ) → length (pieces cut bs) ≤ length bs + 1
-pieces_few cut bs = rw (pieces_are_parts, length-slice_split) (omega (arith, count_by-le-length cut bs))
+pub pieces_few : (cut : ℕ → Bool) (bs : List ℕ) → length (slice_split cut bs) ≤ length bs + 1
+pieces_few cut bs = rw length-slice_split (omega (arith, count_by-le-length cut bs))

@@ -1,3 +1,4 @@
 pub mod Said
+pub mod Options
 pub mod Grammar
 pub mod Reading

@@ -1,6 +1,5 @@
 ghost use Rattle.std.specs.Prelude.{◌≡◌};
 ghost use Rattle.std.specs.Option.{option_map};
-ghost use Rattle.lexer.specs.Left.{words_left};
 ghost use Rattle.script.specs.Said.{asked_by};
 ghost use Rattle.script.specs.Grammar.{typed_procedure, typed_note as note_by_words, typed_row as row_by_words, note_form, format_form, attach_form, enter_form, countersign_form, withdraw_form, certify_form, strike_form, item_form, record_form};
 
@@ -44,7 +43,7 @@ fn typed_note(
 
 /// What follows `note`.
 pub(crate) fn note_of<'a>(book: BookName, mut words: Words) -> Option<Command<'a>>
-    ensures value { option_map asked_by result ≡ note_form book (words_left words.entry) }
+    ensures value { option_map asked_by result ≡ note_form book words.entry }
 {
     let procedure = words.next()?;
     let a = words.next()?;
@@ -56,7 +55,7 @@ pub(crate) fn note_of<'a>(book: BookName, mut words: Words) -> Option<Command<'a
 
 /// What follows `format`.
 pub(crate) fn format_of<'a>(mut words: Words) -> Option<Command<'a>>
-    ensures value { option_map asked_by result ≡ format_form (words_left words.entry) }
+    ensures value { option_map asked_by result ≡ format_form words.entry }
 {
     let house = words.next()?;
     let None = words.next() else { return None };
@@ -67,14 +66,14 @@ pub(crate) fn format_of<'a>(mut words: Words) -> Option<Command<'a>>
 
 /// What follows `attach`: nothing.
 pub(crate) fn attach_of<'a>(mut words: Words) -> Option<Command<'a>>
-    ensures value { option_map asked_by result ≡ attach_form (words_left words.entry) }
+    ensures value { option_map asked_by result ≡ attach_form words.entry }
 {
     words.next().is_none().then_some(Command::Attach)
 }
 
 /// What follows `enter`.
 pub(crate) fn enter_of<'a>(book: BookName, mut words: Words<'a>) -> Option<Command<'a>>
-    ensures value { option_map asked_by result ≡ enter_form book (words_left words.entry) }
+    ensures value { option_map asked_by result ≡ enter_form book words.entry }
 {
     let slip = words.next()?;
     let user = words.next()?;
@@ -94,7 +93,7 @@ pub(crate) fn enter_of<'a>(book: BookName, mut words: Words<'a>) -> Option<Comma
 
 /// What follows `countersign`.
 pub(crate) fn countersign_of<'a>(mut words: Words<'a>) -> Option<Command<'a>>
-    ensures value { option_map asked_by result ≡ countersign_form (words_left words.entry) }
+    ensures value { option_map asked_by result ≡ countersign_form words.entry }
 {
     let slip = words.next()?;
     let user = words.next()?;
@@ -109,7 +108,7 @@ pub(crate) fn countersign_of<'a>(mut words: Words<'a>) -> Option<Command<'a>>
 
 /// What follows `withdraw`.
 pub(crate) fn withdraw_of<'a>(mut words: Words<'a>) -> Option<Command<'a>>
-    ensures value { option_map asked_by result ≡ withdraw_form (words_left words.entry) }
+    ensures value { option_map asked_by result ≡ withdraw_form words.entry }
 {
     let slip = words.next()?;
     words.next().is_none().then_some(Command::Withdraw { slip })
@@ -137,7 +136,7 @@ fn typed_row(
 
 /// What follows `certify`.
 pub(crate) fn certify_of<'a>(book: BookName, mut words: Words<'a>) -> Option<Command<'a>>
-    ensures value { option_map asked_by result ≡ certify_form book (words_left words.entry) }
+    ensures value { option_map asked_by result ≡ certify_form book words.entry }
 {
     let word = words.next()?;
     let row = words.next()?;
@@ -152,7 +151,7 @@ pub(crate) fn certify_of<'a>(book: BookName, mut words: Words<'a>) -> Option<Com
 
 /// What follows `strike`.
 pub(crate) fn strike_of<'a>(mut words: Words<'a>) -> Option<Command<'a>>
-    ensures value { option_map asked_by result ≡ strike_form (words_left words.entry) }
+    ensures value { option_map asked_by result ≡ strike_form words.entry }
 {
     let word = words.next()?;
     let row = words.next()?;
@@ -165,7 +164,7 @@ pub(crate) fn strike_of<'a>(mut words: Words<'a>) -> Option<Command<'a>>
 
 /// What follows `item`.
 pub(crate) fn item_of<'a>(mut words: Words) -> Option<Command<'a>>
-    ensures value { option_map asked_by result ≡ item_form (words_left words.entry) }
+    ensures value { option_map asked_by result ≡ item_form words.entry }
 {
     let item = words.next()?;
     let None = words.next() else { return None };
@@ -176,7 +175,7 @@ pub(crate) fn item_of<'a>(mut words: Words) -> Option<Command<'a>>
 
 /// What follows `record`.
 pub(crate) fn record_of<'a>(mut words: Words) -> Option<Command<'a>>
-    ensures value { option_map asked_by result ≡ record_form (words_left words.entry) }
+    ensures value { option_map asked_by result ≡ record_form words.entry }
 {
     let number = words.next()?;
     let None = words.next() else { return None };

@@ -1,6 +1,5 @@
 ghost use Rattle.std.specs.Prelude.{◌≡◌, IfOk};
 ghost use Rattle.std.specs.Option.{option_map};
-ghost use Rattle.lexer.specs.Left.{words_left};
 ghost use Rattle.script.specs.Said.{asked_by, said_by as said_by_line};
 ghost use Rattle.script.specs.Grammar.{command, command_line, said, understood};
 
@@ -16,7 +15,7 @@ use std::alloc::{AllocError, Global};
 /// The command of this name, under the book that is chosen above it.
 // Not a `match` on the name: it would compare byte by byte, and the check does not put that many cases together.
 fn command_of<'a>(book: BookName, name: &[u8], words: Words<'a>) -> Option<Command<'a>>
-    ensures value { option_map asked_by result ≡ command book name.now (words_left words.entry) }
+    ensures value { option_map asked_by result ≡ command book name.now words.entry }
 {
     if name == b"note".as_slice() {
         note_of(book, words)
@@ -45,7 +44,8 @@ fn command_of<'a>(book: BookName, name: &[u8], words: Words<'a>) -> Option<Comma
 
 /// A line that asks for what its command says. It needs a book that was chosen above it.
 fn asks_by<'a>(book: Option<BookName>, name: &[u8], words: Words<'a>) -> Option<Line<'a>>
-    ensures value { option_map said_by_line result ≡ command_line book name.now (words_left words.entry) }
+    ensures value { option_map said_by_line result
+        ≡ command_line book name.now words.entry }
 {
     Some(Line::Asks(command_of(book?, name, words)?))
 }
@@ -56,7 +56,8 @@ fn said_by<'a>(
     book: Option<BookName>,
     mut words: Words<'a>,
 ) -> Result<Option<Line<'a>>, AllocError>
-    ensures value { IfOk result (λ l. option_map said_by_line l ≡ said book (words_left words.entry)) }
+    ensures value { IfOk result
+        (λ l. option_map said_by_line l ≡ said book words.entry) }
 {
     match words.next() {
         None => Ok(Some(Line::Nothing)),

@@ -57,7 +57,8 @@ impl<'a> Script<'a> {
 
     /// Adds what the line of this number says. It fails only for want of memory.
     pub(crate) fn add(&mut self, number: u64, line: Line<'a>) -> Result<(), AllocError>
-        ensures value { OnOk result (contents self.new ≡ with_line number (said_by line.entry) (contents self.old)) }
+        ensures value { OnOk result
+            (contents self.new ≡ with_line number (said_by line.entry) (contents self.old)) }
     {
         match line {
             Line::Nothing => {}

@@ -14,4 +14,7 @@ number Give = 3
 
 -- the procedure of a number; any other number is refused as step refuses it
 abbrev pub Numbered : ℕ → Result Procedure StepPlace → Type 0
-Numbered n r = MatchResult r (λ p. (number p ≡ n) × (has_procedure stock n ≡ true)) (λ e. (e ≡ Items) × (has_procedure stock n ≡ false))
+Numbered n r =
+    MatchResult r
+    (λ p. (number p ≡ n) × (has_procedure stock n ≡ true))
+    (λ e. (e ≡ Items) × (has_procedure stock n ≡ false))

@@ -1,9 +1,10 @@
 -- The stock book: for each shelf the reels held and the most that it takes. Item 0 holds the sums of items 1 to 63.
-use Rattle.std.specs.Prelude.{ℕ, ◌+◌, ◌-◌, ◌*◌, ◌/◌, ◌%◌, ◌^◌, Bool, true, cond, ◌&&◌, List, [], ◌∷◌, length, drop, Ok, Err, codes, sum_by, Result, ◌==◌, nat_le, nat_lt, slice_index}
+use Rattle.std.specs.Prelude.{ℕ, ◌+◌, ◌-◌, ◌*◌, ◌/◌, ◌%◌, ◌^◌, Bool, true, not, ◌&&◌, List, [], ◌∷◌, length, drop, Ok, Err, codes, sum_by, Result, ◌==◌, nat_le, nat_lt, slice_index, if◌then◌else◌}
+use Rattle.std.specs.List.{list_all}
 use Rattle.refusals.specs.declared.step_place.StepPlace.{StepPlace}
 use Rattle.refusals.specs.declared.step_place.StepPlace.TheVariants.{Items, Amount, Values}
+use Rattle.books.specs.declared.draft.Draft.{Draft}
 use Rattle.books.specs.Meaning.{Meaning, amount_ok}
-use Rattle.lists.specs.Every.{all}
 
 -- the reels held: the low 32 bits of a code
 abbrev pub held : ℕ → ℕ
@@ -29,45 +30,56 @@ in_order c = shelf_ok (held c) (most c)
 abbrev pub stock_valid : List ℕ → Bool
 stock_valid cs =
     (length cs == 64)
-    && (all (λ c. shelf_ok (held c) (most c)) (drop 1 cs)
+    && (list_all in_order (drop 1 cs)
     && (held (slice_index cs 0) == sum_by held (drop 1 cs)
     && most (slice_index cs 0) == sum_by most (drop 1 cs)))
 
 -- every procedure takes a shelf and item 0
-abbrev pub stock_takes : ℕ → ℕ → ℕ → Bool
-stock_takes p a b = (nat_le 1 p && nat_le p 3) && ((nat_le 1 a && nat_le a 63) && b == 0)
+abbrev pub stock_takes : Draft → Bool
+stock_takes d =
+    (nat_le 1 d.procedure && nat_le d.procedure 3) && ((nat_le 1 d.a && nat_le d.a 63) && d.b == 0)
 
 -- build (1) adds to the most, take (2) to the held, give (3) takes from the held
 abbrev pub held_after : ℕ → ℕ → ℕ → ℕ
-held_after p h n = cond (p == 2) (h + n) (cond (p == 3) (h - n) h)
+held_after p h n =
+    if p == 2 then h + n
+    else if p == 3 then h - n
+    else h
 
 abbrev pub most_after : ℕ → ℕ → ℕ → ℕ
-most_after p m n = cond (p == 1) (m + n) m
+most_after p m n = if p == 1 then m + n else m
 
 -- no half leaves 0 to 4,294,967,295
 abbrev pub halves_stay : ℕ → ℕ → ℕ → ℕ → Bool
 halves_stay p h m n =
-    cond (p == 3) (nat_le n h) true
+    (if p == 3 then nat_le n h else true)
     && (nat_lt (held_after p h n) (2 ^ 32) && nat_lt (most_after p m n) (2 ^ 32))
 
--- both codes keep their halves, and shelf a stays in order
-abbrev pub reels_stay : ℕ → ℕ → ℕ → ℕ → Bool
-reels_stay p x y n =
-    (halves_stay p (held x) (most x) n && halves_stay p (held y) (most y) n)
-    && shelf_ok (held_after p (held x) n) (most_after p (most x) n)
+-- a code keeps its halves
+abbrev pub code_stays : Draft → ℕ → Bool
+code_stays d c = halves_stay d.procedure (held c) (most c) d.amount
 
 -- the code that a procedure leaves
-abbrev pub code_after : ℕ → ℕ → ℕ → ℕ
-code_after p c n = reels_code (held_after p (held c) n) (most_after p (most c) n)
+abbrev pub code_after : Draft → ℕ → ℕ
+code_after d c =
+    reels_code (held_after d.procedure (held c) d.amount) (most_after d.procedure (most c) d.amount)
+
+-- a shelf stays in order
+abbrev pub shelf_stays : Draft → ℕ → Bool
+shelf_stays d c =
+    shelf_ok (held_after d.procedure (held c) d.amount) (most_after d.procedure (most c) d.amount)
+
+-- both codes keep their halves, and shelf a stays in order
+abbrev pub reels_stay : Draft → ℕ × ℕ → Bool
+reels_stay d before = (code_stays d before.0 && code_stays d before.1) && shelf_stays d before.0
 
 -- the same is done to a and to the sums in item 0
-abbrev pub stock_step : ℕ → ℕ → ℕ → ℕ → ℕ → ℕ → Result (ℕ × ℕ) StepPlace
-stock_step p a b x y n =
-    cond (stock_takes p a b)
-    (cond (amount_ok 10000 n)
-    (cond (reels_stay p x y n)
-    (Ok (code_after p x n, code_after p y n))
-    (Err Values)) (Err Amount)) (Err Items)
+abbrev pub stock_step : Draft → ℕ × ℕ → Result (ℕ × ℕ) StepPlace
+stock_step d before =
+    if not (stock_takes d) then Err Items
+    else if not (amount_ok 10000 d.amount) then Err Amount
+    else if not (reels_stay d before) then Err Values
+    else Ok (code_after d before.0, code_after d before.1)
 
 abbrev pub stock : Meaning
 stock = record {

@@ -4,7 +4,7 @@
 
 ghost use Rattle.std.specs.Prelude.{◌≡◌, ◌≤◌, sum_by, length};
 ghost use Rattle.stock.specs.Stock.{stock, shelf_ok, in_order, held, most, reels_code};
-ghost use Rattle.lists.specs.Every.{all};
+ghost use Rattle.std.specs.List.{list_all};
 ghost use Rattle.books.specs.Words.{word_of};
 ghost use Rattle.stock.specs.Keeping.{stock_keeps};
 ghost use Rattle.stock.specs.Stepping.{stock_tests, stock_gives_codes};
@@ -128,7 +128,7 @@ impl Reels {
 
 /// Whether every shelf is in order.
 fn are_in_order(shelves: &[u64]) -> bool
-    ensures value { result ≡ all in_order shelves.now }
+    ensures value { result ≡ list_all in_order shelves.now }
 {
     shelves.iter().all(|code| Reels::from(*code).is_in_order())
 }

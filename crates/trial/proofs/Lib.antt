@@ -1,2 +1,3 @@
 mod Blocks
+mod Alone
 mod Kept

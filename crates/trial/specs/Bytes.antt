@@ -1,7 +1,6 @@
 -- Blocks in a run of bytes: block k is the 64 bytes from 64 * k on. Bytes past the last whole block are in no block.
-use Rattle.std.specs.Prelude.{ℕ, ◌+◌, ◌*◌, ◌/◌, Bool, List, [], ◌++◌, map, length, take, drop, slice_index_or}
+use Rattle.std.specs.Prelude.{ℕ, ◌+◌, ◌*◌, ◌/◌, Bool, true, List, [], ◌∷◌, ◌++◌, map, length, take, drop}
 use Rattle.std.specs.List.{range_with_len}
-use Rattle.std.specs.Str.{bytes_eq}
 use Rattle.drives.specs.Disk.{Disk}
 
 -- the blocks that the bytes hold: their number divided by 64, rounded down
@@ -12,6 +11,11 @@ blocks_of bs = map (λ k. take 64 (drop (64 * k) bs)) (range_with_len 0 (length 
 abbrev pub with_block : List ℕ → ℕ → List ℕ → List ℕ
 with_block bs k x = take (64 * k) bs ++ (x ++ drop (64 * k + 64) bs)
 
--- the drive that the bytes are: what a block holds is the only content that may stand
+-- the drive that the bytes are: what a block holds is the only content that may stand, and a power call is always done
 abbrev pub disk_of : Bool → List ℕ → Disk
-disk_of on bs = record { on = on; blocks = blocks_of bs; may = λ i x. bytes_eq x (slice_index_or (blocks_of bs) i []) }
+disk_of on bs = record {
+  on = on;
+  blocks = blocks_of bs;
+  sets = map (λ x. x ∷ []) (blocks_of bs);
+  certain = true;
+}

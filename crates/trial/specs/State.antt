@@ -1,14 +1,14 @@
 -- The trial drive's calls, as functions of its state.
-use Rattle.std.specs.Prelude.{ℕ, ◌/◌, Bool, true, false, cond, List, length, take, Some, None, Ok, Err, Option, Result, ◌==◌, nat_lt, slice_index_or}
+use Rattle.std.specs.Prelude.{ℕ, ◌/◌, Bool, true, false, not, List, length, take, Some, None, Ok, Err, Option, Result, ◌==◌, nat_lt, slice_index_or, if◌then◌else◌}
+use Rattle.drives.specs.Disk.{Disk}
 use Rattle.drives.specs.declared.DriveFault.{DriveFault}
 use Rattle.drives.specs.declared.DriveFault.TheVariants.{Off, NoSuchBlock, BadBuffer, PowerLost}
-use Rattle.trial.specs.Bytes.{blocks_of, with_block}
+use Rattle.trial.specs.Bytes.{blocks_of, with_block, disk_of}
 use Rattle.trial.specs.Schedule.{turn, burnt, next_fuse, cuts_left}
 use Rattle.trial.specs.declared.fuse.Fuse.{Fuse}
 use Rattle.trial.specs.declared.fuse.Fuse.TheVariants.{Never}
 use Rattle.trial.specs.declared.fuse.Turn.{Turn}
 use Rattle.trial.specs.declared.fuse.Turn.TheVariants.{Done, Lost}
-use Rattle.trial.specs.declared.drive.TrialDrive.{TrialDrive}
 
 -- the handed bytes, power, the cut numbers that no power call has taken yet, and the fuse that burns now
 pub record State : Type 0 where
@@ -17,8 +17,9 @@ pub record State : Type 0 where
   pub cuts : List ℕ
   pub fuse : Fuse
 
-abbrev pub state_of : TrialDrive → State
-state_of t = record { bytes = t.bytes.now; on = t.on; cuts = t.cuts.now; fuse = t.fuse }
+-- the drive that a state means
+abbrev pub disk : State → Disk
+disk s = disk_of s.on s.bytes
 
 -- a new trial drive is off, and takes the first 16 of the cut numbers
 abbrev pub fresh : List ℕ → List ℕ → State
@@ -36,30 +37,36 @@ refused e s = record { answer = Err e; state = s }
 -- the tests of read and write, in their order: power, block number, buffer
 abbrev pub fault : State → ℕ → ℕ → Option DriveFault
 fault s b n =
-    cond s.on (cond (nat_lt b (length s.bytes / 64)) (cond (n == 64) None (Some BadBuffer)) (Some NoSuchBlock)) (Some Off)
+    if not s.on then Some Off
+    else if not (nat_lt b (length s.bytes / 64)) then Some NoSuchBlock
+    else if not (n == 64) then Some BadBuffer
+    else None
 
 -- what a read leaves in the buffer, and answers
 abbrev pub read_answer : Option DriveFault → Result (Unit {0}) DriveFault
 read_answer None = Ok tt
 read_answer (Some e) = Err e
 
-abbrev pub read_buffer : Option DriveFault → State → ℕ → List ℕ → List ℕ
-read_buffer None s b buffer = slice_index_or (blocks_of s.bytes) b buffer
-read_buffer (Some e) s b buffer = buffer
+abbrev pub read_buffer_unless : Option DriveFault → State → ℕ → List ℕ → List ℕ
+read_buffer_unless None s b buffer = slice_index_or (blocks_of s.bytes) b buffer
+read_buffer_unless (Some e) s b buffer = buffer
+
+abbrev pub read_buffer : State → ℕ → List ℕ → List ℕ
+read_buffer s b buffer = read_buffer_unless (fault s b (length buffer)) s b buffer
 
 -- a write that is done or loses power; one that loses power leaves the new content exactly if it lands
 abbrev pub write_by : Turn → State → ℕ → List ℕ → Outcome
 write_by Done s b x = record {
   answer = Ok tt;
-  state = record { bytes = with_block s.bytes b x; on = true; cuts = s.cuts; fuse = burnt s.fuse };
+  state = record s { bytes = with_block s.bytes b x; on = true; fuse = burnt s.fuse };
 }
 write_by (Lost true) s b x = record {
   answer = Err PowerLost;
-  state = record { bytes = with_block s.bytes b x; on = false; cuts = s.cuts; fuse = burnt s.fuse };
+  state = record s { bytes = with_block s.bytes b x; on = false; fuse = burnt s.fuse };
 }
 write_by (Lost false) s b x = record {
   answer = Err PowerLost;
-  state = record { bytes = s.bytes; on = false; cuts = s.cuts; fuse = burnt s.fuse };
+  state = record s { on = false; fuse = burnt s.fuse };
 }
 
 abbrev pub write_unless : Option DriveFault → State → ℕ → List ℕ → Outcome
@@ -73,16 +80,16 @@ write s b x = write_unless (fault s b (length x)) s b x
 abbrev pub flush_by : Turn → State → Outcome
 flush_by Done s = record {
   answer = Ok tt;
-  state = record { bytes = s.bytes; on = true; cuts = s.cuts; fuse = burnt s.fuse };
+  state = record s { on = true; fuse = burnt s.fuse };
 }
 flush_by (Lost lands) s = record {
   answer = Err PowerLost;
-  state = record { bytes = s.bytes; on = false; cuts = s.cuts; fuse = burnt s.fuse };
+  state = record s { on = false; fuse = burnt s.fuse };
 }
 
 abbrev pub flush : State → Outcome
-flush s = cond s.on (flush_by (turn s.fuse) s) (refused Off s)
+flush s = if not s.on then refused Off s else flush_by (turn s.fuse) s
 
 -- a power call is always done
 abbrev pub power : State → State
-power s = record { bytes = s.bytes; on = true; cuts = cuts_left s.cuts; fuse = next_fuse s.cuts }
+power s = record s { on = true; cuts = cuts_left s.cuts; fuse = next_fuse s.cuts }

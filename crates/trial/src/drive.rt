@@ -1,12 +1,13 @@
 ghost use Rattle.std.specs.Prelude.{◌≡◌, ◌/◌, true, Ok, length, IsOk};
 ghost use Rattle.drives.specs.Disk.{size as type_size};
 ghost use Rattle.drives.specs.Calls.{Reads, Writes, Flushes, Powers};
-ghost use Rattle.trial.specs.Bytes.{disk_of};
 ghost use Rattle.trial.specs.Schedule.{turn, burnt};
+ghost use Rattle.trial.specs.State.{State, disk, fresh, fault, read_answer, read_buffer, write, flush, power};
 
 use crate::contents::{fetch, store};
 use crate::fuse::{Fuse, Turn};
 use drives::{Drive, DriveFault};
+use std::marker::Model;
 
 /// How many cut numbers a trial drive takes.
 const MOST_CUTS: usize = 16;
@@ -22,12 +23,24 @@ pub struct TrialDrive<'a> {
     fuse: Fuse,
 }
 
-impl<'a> TrialDrive<'a> {
-    ghost use Rattle.trial.specs.State.{state_of, fresh, fault, read_answer, power};
+/// A trial drive is seen as its state.
+impl<'a> Model for TrialDrive<'a> {
+    ghost use Rattle.trial.specs.State.{State};
 
+    ghost Value = { State };
+
+    ghost view = { λ t. record {
+      bytes = t.bytes.now;
+      on = t.on;
+      cuts = t.cuts.now;
+      fuse = t.fuse;
+    } };
+}
+
+impl<'a> TrialDrive<'a> {
     /// A drive over the bytes, off, that takes the first 16 of the cut numbers.
     pub fn over(bytes: &'a mut [u8], cuts: &'a [u16]) -> TrialDrive<'a>
-        ensures state { state_of result ≡ fresh bytes.old cuts.now }
+        ensures state { result ≡ fresh bytes.old cuts.now }
     {
         TrialDrive {
             bytes,
@@ -39,14 +52,14 @@ impl<'a> TrialDrive<'a> {
 
     /// The bytes, for a fresh drive.
     pub fn into_bytes(self) -> &'a mut [u8]
-        ensures bytes { result.now ≡ (state_of self.entry).bytes }
+        ensures bytes { result.now ≡ self.entry.bytes }
     {
         self.bytes
     }
 
     /// Turns power off and on again, and takes the next cut number, if one is left.
     pub fn turn_on(&mut self)
-        ensures state { state_of self.new ≡ power (state_of self.old) }
+        ensures state { self.new ≡ power self.old }
     {
         self.on = true;
         self.fuse = match self.cuts.split_first() {
@@ -60,7 +73,7 @@ impl<'a> TrialDrive<'a> {
 
     /// Makes the tests of read and write, in their order: power, block number, buffer.
     fn check(&self, block: u64, buffer_length: usize) -> Result<(), DriveFault>
-        ensures value { result ≡ read_answer (fault (state_of self.now) block buffer_length) }
+        ensures value { result ≡ read_answer (fault self.now block buffer_length) }
     {
         if !self.on {
             Err(DriveFault::Off)
@@ -76,10 +89,7 @@ impl<'a> TrialDrive<'a> {
     /// Takes a turn: one of the writes and flushes that are done, or the one that loses power.
     fn take_turn(&mut self) -> Turn
         ensures value { result ≡ turn self.old.fuse }
-        ensures burns { self.new.fuse ≡ burnt self.old.fuse }
-        ensures same_bytes { self.new.bytes.now ≡ self.old.bytes.now }
-        ensures same_power { self.new.on ≡ self.old.on }
-        ensures same_cuts { self.new.cuts.now ≡ self.old.cuts.now }
+        ensures burns { self.new ≡ record self.old { fuse = burnt self.old.fuse } }
     {
         match self.fuse {
             Fuse::Never => Turn::Done,
@@ -97,15 +107,11 @@ impl<'a> TrialDrive<'a> {
 
 /// The trial drive keeps the meaning of a drive, and each call gives exactly what its definition gives.
 impl<'a> Drive for TrialDrive<'a> {
-    ghost use Rattle.trial.specs.State.{state_of, fault, read_answer, read_buffer, write, flush, power};
-
-    ghost disk = { λ t. disk_of t.on t.bytes.now };
-
-    ghost powers_up = { λ t. true };
+    ghost disk = { disk };
 
     fn size(&self) -> u64
-        ensures value { result ≡ type_size (disk_of self.now.on self.now.bytes.now) }
-        ensures whole_blocks { result ≡ length (state_of self.now).bytes / 64 }
+        ensures value { result ≡ type_size (disk self.now) }
+        ensures whole_blocks { result ≡ length self.now.bytes / 64 }
     {
         (self.bytes.len() / 64) as u64
     }
@@ -115,9 +121,9 @@ impl<'a> Drive for TrialDrive<'a> {
     }
 
     fn read(&self, block: u64, buffer: &mut [u8]) -> Result<(), DriveFault>
-        ensures reads { Reads (disk_of self.now.on self.now.bytes.now) block buffer.old result buffer.new }
-        ensures answer { result ≡ read_answer (fault (state_of self.now) block (length buffer.old)) }
-        ensures buffer { buffer.new ≡ read_buffer (fault (state_of self.now) block (length buffer.old)) (state_of self.now) block buffer.old }
+        ensures reads { Reads (disk self.now) block buffer.old result buffer.new }
+        ensures answer { result ≡ read_answer (fault self.now block (length buffer.old)) }
+        ensures buffer { buffer.new ≡ read_buffer self.now block buffer.old }
     {
         self.check(block, buffer.len())?;
         fetch(self.bytes, block as usize, buffer);
@@ -125,9 +131,9 @@ impl<'a> Drive for TrialDrive<'a> {
     }
 
     fn write(&mut self, block: u64, content: &[u8]) -> Result<(), DriveFault>
-        ensures writes { Writes (disk_of self.old.on self.old.bytes.now) block content.now result (disk_of self.new.on self.new.bytes.now) }
-        ensures answer { result ≡ (write (state_of self.old) block content.now).answer }
-        ensures state { state_of self.new ≡ (write (state_of self.old) block content.now).state }
+        ensures writes { Writes (disk self.old) block content.now result (disk self.new) }
+        ensures answer { result ≡ (write self.old block content.now).answer }
+        ensures state { self.new ≡ (write self.old block content.now).state }
     {
         self.check(block, content.len())?;
         match self.take_turn() {
@@ -146,9 +152,9 @@ impl<'a> Drive for TrialDrive<'a> {
     }
 
     fn flush(&mut self) -> Result<(), DriveFault>
-        ensures flushes { Flushes (disk_of self.old.on self.old.bytes.now) result (disk_of self.new.on self.new.bytes.now) }
-        ensures answer { result ≡ (flush (state_of self.old)).answer }
-        ensures state { state_of self.new ≡ (flush (state_of self.old)).state }
+        ensures flushes { Flushes (disk self.old) result (disk self.new) }
+        ensures answer { result ≡ (flush self.old).answer }
+        ensures state { self.new ≡ (flush self.old).state }
     {
         if !self.on {
             return Err(DriveFault::Off);
@@ -164,10 +170,10 @@ impl<'a> Drive for TrialDrive<'a> {
 
     /// Always done.
     fn power(&mut self) -> Result<(), DriveFault>
-        ensures powers { Powers (disk_of self.old.on self.old.bytes.now) result (disk_of self.new.on self.new.bytes.now) }
+        ensures powers { Powers (disk self.old) result (disk self.new) }
         ensures done { IsOk result }
         ensures answer { result ≡ Ok tt }
-        ensures state { state_of self.new ≡ power (state_of self.old) }
+        ensures state { self.new ≡ power self.old }
     {
         self.turn_on();
         Ok(())

@@ -1,4 +1,4 @@
-use Rattle.image.proofs.Accepting.{accepts_exactly_lawful}
+use Rattle.image.specs.Laws.Accepting.{accepts_exactly_lawful}
 use Rattle.image.proofs.verdict_accepts_exactly_lawful.Goals as goal
 
 pub returns : goal.returns

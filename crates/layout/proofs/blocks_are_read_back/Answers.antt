@@ -1,4 +1,4 @@
-use Rattle.layout.proofs.Back.{read_back}
+use Rattle.layout.specs.Laws.{read_back}
 use Rattle.layout.proofs.blocks_are_read_back.Goals as goal
 
 pub returns : goal.returns

@@ -1,13 +1,13 @@
-use Rattle.std.proofs.Common.{◌≡◌, true, Decides, map, refl, rules}
-use Rattle.std.specs.List.{All}
-use Rattle.std.proofs.lemmas.Bool.Decides.{Decides-by_and, same_from_decides}
+use Rattle.std.proofs.Common.{sym, ◌∙◌, rules}
+use Rattle.std.proofs.lemmas.Iterator.{YieldsList-from_slice}
+use Rattle.std.proofs.lemmas.Iterator.Search.{all_from_yields_List}
+use Rattle.std.proofs.lemmas.List.Folds.{list_all-map}
+use borrow.Author.Tests.{tests}
 use Rattle.ledger.specs.Ledger.{balance, within}
-use Rattle.lists.specs.Every.{all}
 use Rattle.ledger.proofs.are_within.Goals as goal
 
--- Both tests decide whether each balance lies within its bounds.
+-- each code is tested by the balance that it stands for
 pub returns : goal.returns
 returns c =
-    let found : Decides c.all.result (All (λ x. within (balance x) ≡ true) c.args.codes.now) = search rules in
-    let told = Decides-by_and (λ x. within (balance x)) (λ x. within (balance x) ≡ true) (λ xs. all within (map balance xs)) (λ x. (λ h. h, λ h. h)) refl (λ _ _. refl) c.args.codes.now in
-    record { value = same_from_decides c.all.result (all within (map balance c.args.codes.now)) found told }
+    let each = all_from_yields_List (λ x. within (balance x)) _ _ c.all.result c.all.ensures.ran (YieldsList-from_slice c.args.codes.now (cc)) (λ x b q k. search (rules, tests)) in
+    record { value = each ∙ sym (list_all-map within balance c.args.codes.now) }

@@ -1,13 +1,11 @@
-use Rattle.std.proofs.Common.{◌≡◌, true, Decides, refl, rules}
-use Rattle.std.specs.List.{All}
-use Rattle.std.proofs.lemmas.Bool.Decides.{Decides-by_and, same_from_decides}
+use Rattle.std.proofs.Common.{rules}
+use Rattle.std.proofs.lemmas.Iterator.{YieldsList-from_slice}
+use Rattle.std.proofs.lemmas.Iterator.Search.{all_from_yields_List}
+use borrow.Author.Tests.{tests}
 use Rattle.stock.specs.Stock.{in_order}
-use Rattle.lists.specs.Every.{all}
 use Rattle.stock.proofs.are_in_order.Goals as goal
 
--- Both tests decide whether each shelf is in order.
 pub returns : goal.returns
 returns c =
-    let found : Decides c.all.result (All (λ x. in_order x ≡ true) c.args.shelves.now) = search rules in
-    let told = Decides-by_and in_order (λ x. in_order x ≡ true) (all in_order) (λ x. (λ h. h, λ h. h)) refl (λ _ _. refl) c.args.shelves.now in
-    record { value = same_from_decides c.all.result (all in_order c.args.shelves.now) found told }
+    let each = all_from_yields_List in_order _ _ c.all.result c.all.ensures.ran (YieldsList-from_slice c.args.shelves.now (cc)) (λ x b q k. search (rules, tests)) in
+    record { value = each }

@@ -1,17 +1,35 @@
-use Rattle.std.proofs.Common.{◌≡◌, ℕ, zero, suc, ◌+◌, ◌<◌, ◌≤◌, ◌⊎◌, ◌∙◌, refl, inl, inr, add-one, arith}
-use Rattle.std.proofs.lemmas.Bool.{false≢true}
-use Rattle.changes.specs.Commit.{number_of, Rises}
+use Rattle.std.proofs.Common.{◌≡◌, ℕ, ◌+◌, ◌<◌, ◌≤◌, ◌⊎◌, List, get_or, drop, Decides, sym, ap, ◌∙◌, subst, inl, inr, arith}
+use Rattle.std.proofs.lemmas.List.{drop_all}
+use Rattle.changes.specs.Commit.{count_of, number_of, named_in, rising, Rises}
+use Rattle.changes.specs.Laws.Encoding.{named_at, length-named}
+use Rattle.changes.specs.Laws.Testing.{rising_decides, rising_on, rising_ends}
 use Rattle.changes.proofs.commit.is_rising.Goals as goal
 
--- a number that is not above the one before it, or not below the size, is none of rising ones
-falls : (size n last i : ℕ) (ns : ℕ → ℕ) → i < n → (i ≡ 0 → last ≡ 6) → ((k : ℕ) → k + 1 ≡ i → last ≡ ns k) → (ns i ≤ last) ⊎ (size ≤ ns i) → Rises size n ns → ⊥
-falls size n last i ns l z p (inr b) r = omega (arith, r.high i l)
-falls size n last zero ns l z p (inl a) r = omega (arith, r.low 0 l, z refl)
-falls size n last (suc k) ns l z p (inl a) r = omega (arith, p k (add-one k), r.rise k (suc k) (omega arith) l)
+-- the number that the code reads is the list's
+read : (c : List ℕ) (i x n : ℕ) → i < count_of c → count_of c ≤ 6 → (i < 6 → n ≡ number_of c i) → x ≡ n → x ≡ get_or (named_in c) i 0
+read c i x n h few named e = e ∙ named (omega arith) ∙ sym (named_at c i h)
+
+pub loop-place-preserved : goal.loop-place-preserved
+loop-place-preserved c =
+    let ns = named_in c.args.commit.now in
+    let i = c.loop-place.place in
+    let here : i < count_of c.args.commit.now = omega arith in
+    let x = read c.args.commit.now i _ _ here c.requires.few c.named_block.ensures.value c.from-number.ensures in
+    let step = rising_on c.args.size c.loop-place.last i ns (omega (arith, length-named c.args.commit.now)) (omega arith) (omega arith) in
+    c.loop-place.invariant ∙ step ∙ ap (λ m. rising c.args.size m (drop (i + 1) ns)) (sym x)
 
 pub returns-then-number-last : goal.returns-then-number-last
 returns-then-number-last c =
-    let i = c.loop-place.invariant in
-    let e = c.from-number.ensures ∙ c.named_block.ensures.value (omega arith) in
-    let fails : (number_of c.args.commit.now c.loop-place.place ≤ c.loop-place.last) ⊎ (c.args.size ≤ number_of c.args.commit.now c.loop-place.place) = elim c.then-number-last.either [ inl a ↦ inl (omega arith) | inr b ↦ inr (omega arith) ] in
-    record { decides = (λ t. absurd (false≢true t), λ r. absurd (falls c.args.size c.args.count c.loop-place.last c.loop-place.place (number_of c.args.commit.now) c.loop-place-test.true i.3 i.4 fails r)) }
+    let ns = named_in c.args.commit.now in
+    let i = c.loop-place.place in
+    let here : i < count_of c.args.commit.now = omega arith in
+    let x = read c.args.commit.now i _ _ here c.requires.few c.named_block.ensures.value c.from-number.ensures in
+    let fails : (get_or ns i 0 ≤ c.loop-place.last) ⊎ (c.args.size ≤ get_or ns i 0) = elim c.then-number-last.either [ inl a ↦ inl (omega arith) | inr b ↦ inr (omega arith) ] in
+    let no = c.loop-place.invariant ∙ rising_ends c.args.size c.loop-place.last i ns (omega (arith, length-named c.args.commit.now)) fails in
+    record { decides = subst (λ b. Decides b (Rises c.args.size ns)) no (rising_decides c.args.size ns) }
+
+pub returns : goal.returns
+returns c =
+    let ns = named_in c.args.commit.now in
+    let yes = c.loop-place.invariant ∙ ap (rising c.args.size c.loop-place.last) (drop_all c.loop-place.place ns (omega (arith, length-named c.args.commit.now))) in
+    record { decides = subst (λ b. Decides b (Rises c.args.size ns)) yes (rising_decides c.args.size ns) }

@@ -1,11 +1,8 @@
-use Rattle.std.proofs.Common.{◌≡◌, ℕ, ◌+◌, ◌<◌, ◌≤◌}
-use Rattle.changes.specs.Commit.{number_of, Rises}
+use Rattle.std.proofs.Common.{◌≡◌, drop}
+use Rattle.changes.specs.Commit.{named_in, rising}
 use Rattle.changes.proofs.commit.is_rising.Given as goal
 
+-- the numbers rise if those that are left rise from above the last
 abbrev pub invariant-loop-place : goal.invariant-loop-place
 invariant-loop-place l =
-    Rises l.size l.place (number_of l.commit)
-    × (6 ≤ l.last)
-    × ((k : ℕ) → k < l.place → number_of l.commit k ≤ l.last)
-    × (l.place ≡ 0 → l.last ≡ 6)
-    × ((k : ℕ) → k + 1 ≡ l.place → l.last ≡ number_of l.commit k)
+    rising l.size 6 (named_in l.commit) ≡ rising l.size l.last (drop l.place (named_in l.commit))

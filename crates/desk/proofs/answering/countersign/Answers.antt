@@ -1,6 +1,6 @@
 use Rattle.std.proofs.Common.{List, ◌∙◌}
 use Rattle.books.specs.Meaning.{Meaning}
-use Rattle.monitor.specs.Machine.{Machine, machine}
+use Rattle.monitor.specs.Machine.{Machine}
 use Rattle.desk.specs.Serving.{Ticket, tickets_of}
 use Rattle.desk.proofs.Moving.{countersigns, countersigns_none}
 use Rattle.desk.proofs.Trays.{stays}
@@ -10,8 +10,8 @@ use Rattle.desk.proofs.answering.countersign.Goals as goal
 pub returns-in-Some-clause-answered : goal.returns-in-Some-clause-answered
 returns-in-Some-clause-answered g c =
     let m : Meaning = g.B.Book.meaning in
-    let s : Machine = machine c.args.monitor.now.stage (g.D.Drive.disk c.args.monitor.now.journal.drive) in
-    let t : Machine = machine c.countersign.new.self.stage (g.D.Drive.disk c.countersign.new.self.journal.drive) in
+    let s : Machine = c.args.monitor.now in
+    let t : Machine = c.countersign.new.self in
     let ts : List Ticket = tickets_of c.args.tray.now.items in
     countersigns m s ts c.args.name.now c.args.user c.args.word.now _ _ t _ c.in-Some.ensures.slip c.in-Some.ensures.rest c.countersign.ensures.countersigns
 
@@ -22,7 +22,7 @@ returns-in-Some-clause-no_longer g c = c.in-Some.ensures.no_longer
 pub returns-in-None-clause-answered : goal.returns-in-None-clause-answered
 returns-in-None-clause-answered g c =
     let m : Meaning = g.B.Book.meaning in
-    let s : Machine = machine c.args.monitor.now.stage (g.D.Drive.disk c.args.monitor.now.journal.drive) in
+    let s : Machine = c.args.monitor.now in
     let ts : List Ticket = tickets_of c.args.tray.now.items in
     let n = c.args.name.now in
     countersigns_none m s ts n c.args.user c.args.word.now _ c.in-None.ensures.slip (c.in-None.ensures.rest ∙ stays ts n c.in-None.ensures.slip)

@@ -1,7 +1,7 @@
 use Rattle.std.proofs.Common.{◌≡◌, ◌+◌, ◌++◌, [], ◌∷◌, length, sym, ap, ◌∙◌, arith, rules}
 use Rattle.std.proofs.lemmas.List.{length-append, append_assoc}
 use Rattle.std.specs.Vec.Iter.{into_iter_items}
-use Rattle.monitor.specs.Machine.{Machine, machine}
+use Rattle.monitor.specs.Machine.{Machine}
 use Rattle.books.specs.Meaning.{Meaning}
 use Rattle.desk.specs.Serving.{tickets_of, opened_with}
 use Rattle.desk.proofs.Sessions.{begins, goes_on, served, one_more, none_left}
@@ -11,7 +11,7 @@ use Rattle.desk.proofs.serving.serve.Goals as goal
 pub loop-call-init : goal.loop-call-init
 loop-call-init g c =
     let m : Meaning = g.B.Book.meaning in
-    let s : Machine = machine c.args.monitor.now.stage (g.D.Drive.disk c.args.monitor.now.journal.drive) in (
+    let s : Machine = c.args.monitor.now in (
       tt,
       tt,
       c.into_iter-call-iterator.ensures.into_iter_gives.0,
@@ -37,9 +37,9 @@ push_reserved-requires g c =
 pub loop-call-preserved : goal.loop-call-preserved
 loop-call-preserved g c =
     let m : Meaning = g.B.Book.meaning in
-    let s0 : Machine = machine c.args.monitor.now.stage (g.D.Drive.disk c.args.monitor.now.journal.drive) in
-    let s : Machine = machine c.loop-call.monitor.stage (g.D.Drive.disk c.loop-call.monitor.journal.drive) in
-    let t : Machine = machine c.answer.new.monitor.stage (g.D.Drive.disk c.answer.new.monitor.journal.drive) in
+    let s0 : Machine = c.args.monitor.now in
+    let s : Machine = c.loop-call.monitor in
+    let t : Machine = c.answer.new.monitor in
     let (a, b, all, left, few, told, room, places, past) = c.loop-call.invariant in
     let ys = c.loop-call.yielded in
     let x = c.in-Some.call in
@@ -59,8 +59,8 @@ loop-call-preserved g c =
 pub returns-clause-served : goal.returns-clause-served
 returns-clause-served g c =
     let m : Meaning = g.B.Book.meaning in
-    let s : Machine = machine c.args.monitor.now.stage (g.D.Drive.disk c.args.monitor.now.journal.drive) in
-    let t : Machine = machine c.loop-call.monitor.stage (g.D.Drive.disk c.loop-call.monitor.journal.drive) in
+    let s : Machine = c.args.monitor.now in
+    let t : Machine = c.loop-call.monitor in
     let (a, b, all, left, few, told, room, places, past) = c.loop-call.invariant in
     let full : length c.loop-call.yielded ≡ length c.args.calls.items = omega (arith, left, c.in-None.ensures.steps.0) in
-    served m g.met.B.Book.step_tests g.met.B.Book.step_gives_codes s t c.loop-call.yielded c.args.calls.items _ _ _ all (none_left _ _ _ all full) past
+    served c.every_history_is_lawful.ensures.holds m g.met.B.Book.step_tests g.met.B.Book.step_gives_codes s t c.loop-call.yielded c.args.calls.items _ _ _ all (none_left _ _ _ all full) past

@@ -1,7 +1,6 @@
 use Rattle.std.proofs.Common.{◌≡◌, ◌+◌, ◌≤◌, ◌++◌, List, map, length, vec_len, vec_capacity}
 use Rattle.std.specs.Vec.Iter.{into_iter_items, into_iter_len}
 use Rattle.histories.specs.Events.{Event}
-use Rattle.monitor.specs.Machine.{machine}
 use Rattle.desk.specs.Serving.{request_of, tickets_of, opened_with, Session}
 use Rattle.desk.proofs.serving.serve.Given as goal
 
@@ -16,4 +15,4 @@ invariant-loop-call g l =
     × (vec_len l.answers ≡ length l.yielded)
     × (length l.fn.calls.items ≤ vec_capacity l.tray)
     × (length l.fn.calls.items ≤ vec_capacity l.answers)
-    × ((es : List Event) × Session g.B.Book.meaning (opened_with (machine l.fn.monitor.stage (g.D.Drive.disk l.fn.monitor.journal.drive))) (map request_of l.yielded) l.answers.items (record { machine = machine l.monitor.stage (g.D.Drive.disk l.monitor.journal.drive); tray = tickets_of l.tray.items; happened = es }))
+    × ((es : List Event) × Session g.B.Book.meaning (opened_with l.fn.monitor) (map request_of l.yielded) l.answers.items (record { machine = l.monitor; tray = tickets_of l.tray.items; happened = es }))

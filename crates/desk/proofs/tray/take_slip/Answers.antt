@@ -4,7 +4,7 @@ use Rattle.std.specs.Option.{option_map}
 use Rattle.std.proofs.lemmas.Iterator.{YieldsList-from_slice}
 use Rattle.std.proofs.lemmas.Iterator.Search.{position_from_yields_List}
 use borrow.Author.Tests.{tests}
-use Rattle.monitor.specs.Held.{entered_of}
+use Rattle.monitor.specs.Slips.{Paper}
 use Rattle.desk.specs.declared.tray.Waiting.{Waiting}
 use Rattle.desk.specs.Serving.{tickets_of}
 use Rattle.desk.proofs.Trays.{bears, not_there, there, none_waits, none_goes, first_waits, first_goes}
@@ -16,7 +16,7 @@ returns-in_err-place-clause-slip c =
     let ws : List Waiting = c.args.tray.now.items in
     let n = c.args.name.now in
     let at = position_from_yields_List (bears n) _ _ c.position.result c.position.ensures.ran (YieldsList-from_slice ws (cc)) (λ x b q k. search (rules, tests)) in
-    ap (option_map entered_of) c.from_residual.ensures ∙ sym (none_waits n ws (not_there _ _ _ at c.in_err-place.was))
+    ap (option_map (λ (z : Paper). z.entered)) c.from_residual.ensures ∙ sym (none_waits n ws (not_there _ _ _ at c.in_err-place.was))
 
 pub returns-in_err-place-clause-rest : goal.returns-in_err-place-clause-rest
 returns-in_err-place-clause-rest c =
@@ -30,10 +30,10 @@ pub returns-clause-slip : goal.returns-clause-slip
 returns-clause-slip c =
     let ws : List Waiting = c.args.tray.now.items in
     let n = c.args.name.now in
-    let x : Waiting = c.remove.result in
+    let x : Waiting = c.remove-slip.result in
     let at = position_from_yields_List (bears n) _ _ c.position.result c.position.ensures.ran (YieldsList-from_slice ws (cc)) (λ x b q k. search (rules, tests)) in
     let found = there _ _ _ at c.in_ok-place.place c.in_ok-place.was in
-    ap (λ (w : Waiting). Some (entered_of w.slip)) (c.remove.ensures.value ∙ ap (λ i. get_or ws i x) found.0) ∙ sym (first_waits n ws x found.1)
+    ap (λ (w : Waiting). Some w.slip.entered) (c.remove-slip.ensures.value ∙ ap (λ i. get_or ws i x) found.0) ∙ sym (first_waits n ws x found.1)
 
 pub returns-clause-rest : goal.returns-clause-rest
 returns-clause-rest c =
@@ -41,4 +41,4 @@ returns-clause-rest c =
     let n = c.args.name.now in
     let at = position_from_yields_List (bears n) _ _ c.position.result c.position.ensures.ran (YieldsList-from_slice ws (cc)) (λ x b q k. search (rules, tests)) in
     let found = there _ _ _ at c.in_ok-place.place c.in_ok-place.was in
-    ap tickets_of (c.remove.ensures.items ∙ ap (remove ws) found.0) ∙ sym (first_goes n ws found.1)
+    ap tickets_of (c.remove-slip.ensures.items ∙ ap (remove ws) found.0) ∙ sym (first_goes n ws found.1)

@@ -1,7 +1,7 @@
 use Rattle.std.proofs.Common.{[], ap, ◌∙◌}
 use Rattle.std.specs.List.{flat_map}
 use Rattle.std.proofs.lemmas.List.Folds.{flat_map-map}
-use Rattle.lists.proofs.Arrays.{mapped_by}
+use Rattle.lists.specs.Arrays.{mapped_by}
 use Rattle.layout.specs.Rows.{rows_of}
 use Rattle.image.proofs.parts.rows_in.Goals as goal
 

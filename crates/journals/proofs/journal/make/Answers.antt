@@ -1,13 +1,15 @@
-use Rattle.std.proofs.Common.{rules, ◌≡◌, Ok, Err, Result, subst, arith}
+use Rattle.std.proofs.Common.{rules, ◌≡◌, ◌<◌, Ok, Err, Result, subst, arith}
 use Rattle.std.proofs.lemmas.Result.{MatchResult-weaker}
+use Rattle.std.proofs.lemmas.List.{length-map}
 use Rattle.drives.specs.declared.DriveFault.{DriveFault}
-use Rattle.changes.proofs.Encoding.{change_rises, change_wide}
-use Rattle.journals.specs.Steps.{CutSetting}
+use Rattle.drives.specs.Disk.{Disk, size}
+use Rattle.changes.specs.Homes.{IsChange, last}
+use Rattle.changes.specs.Laws.{change_rises, change_wide}
+use Rattle.journals.specs.Steps.{Stages, Commits, Applied, CutApplying, Applies, StepsDone, StepsCut, in_staging, in_committing, in_applying}
 use Rattle.journals.specs.declared.place.Place.{Place}
 use Rattle.journals.specs.declared.place.Place.TheVariants.{Staging, Committing, Applying}
-use Rattle.journals.proofs.Mapped.{was_done, was_cut}
-use Rattle.journals.proofs.Same.{staged_listed, staging_listed, steps_listed}
-use Rattle.journals.proofs.Writing.{puts_size, sets_size}
+use Rattle.journals.proofs.Mapped.{was_done, was_cut, put_as}
+use Rattle.journals.proofs.Writing.{stored_size, commit_size}
 use Rattle.journals.proofs.journal.make.Goals as goal
 
 -- power lost in steps 1 and 2
@@ -15,36 +17,57 @@ pub returns-in_err-map_err : goal.returns-in_err-map_err
 returns-in_err-map_err g c =
     let cut = was_cut _ _ _ _ c.stage.ensures.stages c.map_err.ensures.variant _ c.in_err-map_err.was in
     let is : ◌≡◌ {A = Result (Unit {0}) Place} c.from_residual.result (Err Staging) = search rules in
-    record { steps = rw is (staging_listed _ _ c.homes.ensures.lists _ _ cut) }
+    record { steps = rw is (in_staging (rw (← c.homes.ensures.value) cut)); change = subst IsChange c.homes.ensures.value c.homes.ensures.change }
+
+pub set_commit-requires : goal.set_commit-requires
+set_commit-requires g c =
+    let hs = c.args.change.now in
+    let change : IsChange hs = subst IsChange c.homes.ensures.value c.homes.ensures.change in
+    let staged = was_done _ _ _ _ c.stage.ensures.stages c.map_err.ensures.variant _ c.in_ok-map_err.was in
+    record { on = staged.flushes.on; some = omega (arith, stored_size _ _ _ staged, change_wide hs change _ c.requires.within) }
 
 -- in steps 3 and 4
 pub returns-in_err-map_err-2 : goal.returns-in_err-map_err-2
 returns-in_err-map_err-2 g c =
-    let staged = was_done _ _ _ _ c.stage.ensures.stages c.map_err.ensures.variant _ c.in_ok-map_err.was in
+    let d : Disk = g.D.Drive.disk c.args.drive.now in
+    let s : Disk = g.D.Drive.disk c.stage.new.drive in
+    let staged : Stages c.args.change.now d s = rw (← c.homes.ensures.value) (was_done _ _ _ _ c.stage.ensures.stages c.map_err.ensures.variant _ c.in_ok-map_err.was) in
     let cut = was_cut _ _ _ _ c.set_commit.ensures.sets c.map_err-2.ensures.variant _ c.in_err-map_err-2.was in
     let is : ◌≡◌ {A = Result (Unit {0}) Place} c.from_residual-in_err-map_err-2.result (Err Committing) = search rules in
-    record { steps = rw is (_, staged_listed _ _ c.homes.ensures.lists _ _ staged, subst (λ b. CutSetting b (g.D.Drive.disk c.stage.new.drive) (g.D.Drive.disk c.set_commit.new.drive)) c.commit_block.ensures.value cut) }
+    record { steps = rw is (in_committing staged (rw (← c.commit_block.ensures.value) cut)); change = subst IsChange c.homes.ensures.value c.homes.ensures.change }
 
 -- the drive is on, and as large as it was
-pub redo-requires : goal.redo-requires
-redo-requires g c =
+pub apply-requires : goal.apply-requires
+apply-requires g c =
+    let hs = c.homes-2.result.now in
+    let d : Disk = g.D.Drive.disk c.args.drive.now in
+    let within : last hs < size d = rw c.homes-2.ensures.value c.requires.within in
     let staged = was_done _ _ _ _ c.stage.ensures.stages c.map_err.ensures.variant _ c.in_ok-map_err.was in
     let set = was_done _ _ _ _ c.set_commit.ensures.sets c.map_err-2.ensures.variant _ c.in_ok-map_err-2.was in
-    let a = puts_size _ _ _ _ _ staged in
-    let b = sets_size _ _ _ set in
-    let l = c.homes-2.ensures.lists in
-    let r = change_rises c.args.change.now _ c.requires.within in
+    let a = stored_size _ _ _ staged in
+    let b = commit_size _ _ _ set in
     record {
-      on = set.2.on;
-      some = omega (arith, a, b, change_wide c.args.change.now _ c.requires.within);
-      within = λ i h. omega (arith, a, b, l.count, l.numbers i (omega (arith, l.count)), r.high i (omega (arith, l.count)));
+      on = set.flushes.on;
+      some = omega (arith, a, b, change_wide hs c.homes-2.ensures.change (size d) within);
+      within = λ i h. omega (arith, a, b, (change_rises hs c.homes-2.ensures.change (size d) within).high i (omega (arith, length-map hs (λ h. h.number))));
     }
 
 -- all done, or power lost in steps 5 to 8
 pub returns : goal.returns
 returns g c =
-    let staged = was_done _ _ _ _ c.stage.ensures.stages c.map_err.ensures.variant _ c.in_ok-map_err.was in
-    let set = was_done _ _ _ _ c.set_commit.ensures.sets c.map_err-2.ensures.variant _ c.in_ok-map_err-2.was in
+    let hs = c.args.change.now in
+    let d : Disk = g.D.Drive.disk c.args.drive.now in
+    let s : Disk = g.D.Drive.disk c.stage.new.drive in
+    let t : Disk = g.D.Drive.disk c.set_commit.new.drive in
+    let e : Disk = g.D.Drive.disk c.apply.new.drive in
+    let staged : Stages hs d s = rw (← c.homes.ensures.value) (was_done _ _ _ _ c.stage.ensures.stages c.map_err.ensures.variant _ c.in_ok-map_err.was) in
+    let set : Commits hs s t = rw (← c.commit_block.ensures.value) (was_done _ _ _ _ c.set_commit.ensures.sets c.map_err-2.ensures.variant _ c.in_ok-map_err-2.was) in
+    let applies : Applies hs t c.apply.result e = rw (← c.homes-2.ensures.value) c.apply.ensures.applies in
     let m = c.map_err-3.result in
-    let said = MatchResult-weaker {X = Unit {0}} {Y = DriveFault} c.redo.result {P' = λ x. ◌≡◌ {A = Result (Unit {0}) Place} m (Ok x)} {Q' = λ x. ◌≡◌ {A = Result (Unit {0}) Place} m (Err Applying)} c.map_err-3.ensures.cases (λ x e. e) (λ y e. search rules) in
-    record { steps = steps_listed _ _ _ _ _ _ _ _ _ _ c.homes-2.ensures.lists c.homes.ensures.lists c.commit_block.ensures.value staged set c.redo.ensures.redoes said }
+    let said = MatchResult-weaker {X = Unit {0}} {Y = DriveFault} c.apply.result {P' = λ x. ◌≡◌ {A = Result (Unit {0}) Place} m (Ok x)} {Q' = λ x. ◌≡◌ {A = Result (Unit {0}) Place} m (Err Applying)} c.map_err-3.ensures.cases (λ x e. e) (λ y e. search rules) in
+    record {
+      steps = put_as (Applied hs t e) (StepsDone hs d e) (CutApplying hs t e) (λ p. StepsCut hs d e p) Applying c.apply.result m applies said
+          (λ a. record { filled = s; committed = t; stages = staged; commits = set; applies = a })
+          (λ a. in_applying staged set a);
+      change = subst IsChange c.homes.ensures.value c.homes.ensures.change;
+    }

@@ -1,7 +1,9 @@
-use Rattle.std.proofs.Common.{ℕ, List, subst, inl, inr, rules}
+use Rattle.std.proofs.Common.{ℕ, List, subst, rules}
 use Rattle.std.proofs.lemmas.Result.{err_from_is_err_and, MatchResult-weaker}
 use Rattle.drives.specs.Disk.{Disk}
-use Rattle.journals.specs.Laying.{CutRun, Runs}
+use Rattle.journals.specs.Redo.{from}
+use Rattle.journals.specs.Steps.{Wrote, CutWrote}
+use Rattle.journals.specs.Laying.{in_filling, in_first_flush, in_heading, in_last_flush}
 use Rattle.journals.proofs.Runs.{but_first, flushed_wide}
 use Rattle.journals.proofs.laying.lay_blocks.Goals as goal
 
@@ -11,8 +13,8 @@ returns-in_err-write_run-2 g c =
     let p = err_from_is_err_and c.from_residual-in_err-write_run-2.result c.from_residual-in_err-write_run-2.ensures.1 in
     let a : Disk = g.D.Drive.disk c.write_run.new.drive in
     let e : Disk = g.D.Drive.disk c.write_run-2.new.drive in
-    let fills = subst (λ (z : List (List ℕ)). CutRun 8 z a e) (but_first c.args.home.now c.told-home) c.in_err-write_run-2.ensures.wrote in
-    record { lays = rw p.1 (inr (inl (a, c.in_ok-write_run.ensures.wrote, fills))) }
+    let fills = subst (λ (z : List (List ℕ)). CutWrote (from 8 z) a e) (but_first c.args.home.now c.told-home) c.in_err-write_run-2.ensures.wrote in
+    record { lays = rw p.1 (in_filling c.in_ok-write_run.ensures.wrote fills) }
 
 -- in the first flush
 pub returns-in_err-flush : goal.returns-in_err-flush
@@ -20,38 +22,34 @@ returns-in_err-flush g c =
     let p = err_from_is_err_and c.from_residual-in_err-flush.result c.from_residual-in_err-flush.ensures.1 in
     let a : Disk = g.D.Drive.disk c.write_run.new.drive in
     let b : Disk = g.D.Drive.disk c.write_run-2.new.drive in
-    let fills = subst (λ (z : List (List ℕ)). Runs 8 z a b) (but_first c.args.home.now c.told-home) c.in_ok-write_run-2.ensures.wrote in
-    let cut = c.in_err-flush.ensures.flushes.met fills.on in
-    record { lays = rw p.1 (inr (inr (inl (a, b, c.in_ok-write_run.ensures.wrote, fills, cut.1)))) }
+    let fills = subst (λ (z : List (List ℕ)). Wrote (from 8 z) a b) (but_first c.args.home.now c.told-home) c.in_ok-write_run-2.ensures.wrote in
+    record { lays = rw p.1 (in_first_flush c.in_ok-write_run.ensures.wrote fills (c.in_err-flush.ensures.flushes.met fills.on).1) }
 
 -- in the write of block 7
 pub returns-in_err-write : goal.returns-in_err-write
 returns-in_err-write g c =
     let p = err_from_is_err_and c.from_residual-in_err-write.result c.from_residual-in_err-write.ensures.1 in
-    let d : Disk = g.D.Drive.disk c.args.drive.now in
     let a : Disk = g.D.Drive.disk c.write_run.new.drive in
     let b : Disk = g.D.Drive.disk c.write_run-2.new.drive in
-    let f : Disk = g.D.Drive.disk c.flush.new.self in
     let clears = c.in_ok-write_run.ensures.wrote in
-    let fills = subst (λ (z : List (List ℕ)). Runs 8 z a b) (but_first c.args.home.now c.told-home) c.in_ok-write_run-2.ensures.wrote in
+    let fills = subst (λ (z : List (List ℕ)). Wrote (from 8 z) a b) (but_first c.args.home.now c.told-home) c.in_ok-write_run-2.ensures.wrote in
     let flushed = c.in_ok-flush.ensures.flushes.met fills.on in
-    let wide = flushed_wide c.args.home.now d a b f clears fills flushed c.requires.wide in
-    record { lays = rw p.1 (inr (inr (inr (inl (a, b, f, clears, fills, flushed, (c.in_err-write.ensures.writes.met flushed.on wide (search rules)).1))))) }
+    let wide = flushed_wide c.args.home.now _ a b _ clears fills flushed c.requires.wide in
+    record { lays = rw p.1 (in_heading clears fills flushed (c.in_err-write.ensures.writes.met flushed.on wide (search rules)).1) }
 
 -- in the last flush, or nowhere
 pub returns : goal.returns
 returns g c =
-    let d : Disk = g.D.Drive.disk c.args.drive.now in
     let a : Disk = g.D.Drive.disk c.write_run.new.drive in
     let b : Disk = g.D.Drive.disk c.write_run-2.new.drive in
     let f : Disk = g.D.Drive.disk c.flush.new.self in
     let h : Disk = g.D.Drive.disk c.write.new.self in
     let clears = c.in_ok-write_run.ensures.wrote in
-    let fills = subst (λ (z : List (List ℕ)). Runs 8 z a b) (but_first c.args.home.now c.told-home) c.in_ok-write_run-2.ensures.wrote in
+    let fills = subst (λ (z : List (List ℕ)). Wrote (from 8 z) a b) (but_first c.args.home.now c.told-home) c.in_ok-write_run-2.ensures.wrote in
     let flushed = c.in_ok-flush.ensures.flushes.met fills.on in
-    let heads = c.in_ok-write.ensures.writes.met flushed.on (flushed_wide c.args.home.now d a b f clears fills flushed c.requires.wide) (search rules) in
+    let heads = c.in_ok-write.ensures.writes.met flushed.on (flushed_wide c.args.home.now _ a b f clears fills flushed c.requires.wide) (search rules) in
     record {
       lays = MatchResult-weaker c.flush-2.result (c.flush-2.ensures.flushes.met heads.on)
           (λ _ e. record { cleared = a; filled = b; flushed = f; headed = h; clears = clears; fills = fills; flushes = flushed; heads = heads; ends = e })
-          (λ _ e. inr (inr (inr (inr (a, b, f, h, clears, fills, flushed, heads, e.1)))));
+          (λ _ e. in_last_flush clears fills flushed heads e.1);
     }

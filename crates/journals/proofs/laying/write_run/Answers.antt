@@ -1,14 +1,33 @@
-use Rattle.std.proofs.Common.{◌+◌, ◌<◌, length, refl, rules, arith}
+use Rattle.std.proofs.Common.{rules, [], take, arith}
 use Rattle.std.proofs.lemmas.Result.{err_from_is_err_and}
-use Rattle.drives.specs.Disk.{size}
-use Rattle.journals.proofs.Writing.{wrote_cut, wrote_within}
+use Rattle.changes.specs.Homes.{home_at}
+use Rattle.journals.specs.Redo.{from}
+use Rattle.journals.specs.Laws.Overlay.{length-from, from_at}
+use Rattle.journals.proofs.Writing.{wrote_size, wrote_more, wrote_cut, wrote_all}
 use Rattle.journals.proofs.laying.write_run.Goals as goal
 
 -- a write that loses power ends the run
 pub returns-in_err-write : goal.returns-in_err-write
 returns-in_err-write g c =
+    let i = c.loop-i.i in
+    let xs = c.args.contents.now in
+    let hs = from c.args.first xs in
+    let u = c.loop-i.invariant in
     let p = err_from_is_err_and c.from_residual.result c.from_residual.ensures.1 in
-    let there : c.args.first + c.loop-i.i < size (g.D.Drive.disk c.args.drive.now) = omega arith in
-    let within = wrote_within _ (c.args.first + c.loop-i.i) _ _ _ _ c.loop-i.invariant there in
-    let cut = (c.in_err-write.ensures.writes.met c.loop-i.invariant.on within (search rules)).1 in
-    record { wrote = rw p.1 (wrote_cut c.loop-i.i (c.args.first + c.loop-i.i) _ _ _ _ _ _ refl refl c.loop-i.invariant (length c.args.contents.now) c.loop-i-test.true cut) }
+    let cut = (c.in_err-write.ensures.writes.met u.on (omega (arith, wrote_size (take i hs) _ _ u, c.requires.within)) (search rules)).1 in
+    record { wrote = rw p.1 (wrote_cut hs i (home_at 0 []) _ _ (omega (arith, length-from c.args.first xs)) (from_at c.args.first xs i (home_at 0 []) c.loop-i-test.true) _ _ _ u cut) }
+
+-- one that is done goes on with it
+pub loop-i-preserved : goal.loop-i-preserved
+loop-i-preserved g c =
+    let i = c.loop-i.i in
+    let xs = c.args.contents.now in
+    let hs = from c.args.first xs in
+    let u = c.loop-i.invariant in
+    let done = c.in_ok-write.ensures.writes.met u.on (omega (arith, wrote_size (take i hs) _ _ u, c.requires.within)) (search rules) in
+    wrote_more hs i (home_at 0 []) _ _ (omega (arith, length-from c.args.first xs)) (from_at c.args.first xs i (home_at 0 []) c.loop-i-test.true) _ _ _ u done
+
+pub returns : goal.returns
+returns g c =
+    let xs = c.args.contents.now in
+    record { wrote = wrote_all (from c.args.first xs) c.loop-i.i _ _ (omega (arith, length-from c.args.first xs)) c.loop-i.invariant }

@@ -1,18 +1,19 @@
-use Rattle.std.proofs.Common.{◌≡◌, Ok, subst, rules, tests}
+use Rattle.std.proofs.Common.{◌≡◌, true, Ok, subst, rules, tests}
 use Rattle.std.specs.Prelude.{MatchResult}
-use Rattle.drives.specs.Disk.{size}
 use Rattle.journals.specs.Outcomes.{PowersOn, Finishes}
+use Rattle.journals.specs.State.{size}
+use Rattle.image.specs.Layout.{lawful_size}
 use Rattle.judging.specs.Inspects.{unfinished_for}
-use Rattle.judging.proofs.Starting.{size_lawful, inspect_judged, inspect_refused, inspects_on}
+use Rattle.judging.proofs.Starting.{inspect_judged, inspect_refused, inspects_on}
 use Rattle.judging.proofs.inspecting.inspect.Goals as goal
 
 -- finishing did not end
 pub returns-in_err-map_err-2 : goal.returns-in_err-map_err-2
 returns-in_err-map_err-2 g c =
-    let d = g.D.Drive.disk c.args.journal.now.drive in
-    let p = g.D.Drive.disk c.power.new.self.drive in
-    let e = g.D.Drive.disk c.finish.new.self.drive in
-    let fits = size_lawful c.size-size.result (size d) c.size-size.ensures.value c.if-size-lt35.false c.if-size-gt1024.false in
+    let d = c.args.journal.now in
+    let p = c.power.new.self in
+    let e = c.finish.new.self in
+    let fits : lawful_size (size d) ≡ true = search (rules, tests) in
     let on : c.power.result ≡ Ok tt = search (rules, tests) in
     let says : MatchResult c.finish.result (λ _. ⊥) (λ x. c.from_residual-in_err-map_err-2.result ≡ unfinished_for x) = search (rules, tests) in
     let powers = subst (λ z. PowersOn d z p) on c.power.ensures.powers in
@@ -22,10 +23,10 @@ returns-in_err-map_err-2 g c =
 -- what stands was judged
 pub returns : goal.returns
 returns g c =
-    let d = g.D.Drive.disk c.args.journal.now.drive in
-    let p = g.D.Drive.disk c.power.new.self.drive in
-    let e = g.D.Drive.disk c.finish.new.self.drive in
-    let fits = size_lawful c.size-size.result (size d) c.size-size.ensures.value c.if-size-lt35.false c.if-size-gt1024.false in
+    let d = c.args.journal.now in
+    let p = c.power.new.self in
+    let e = c.finish.new.self in
+    let fits : lawful_size (size d) ≡ true = search (rules, tests) in
     let on : c.power.result ≡ Ok tt = search (rules, tests) in
     let ended : c.finish.result ≡ Ok tt = search (rules, tests) in
     let powers = subst (λ z. PowersOn d z p) on c.power.ensures.powers in

@@ -1,7 +1,9 @@
-use Rattle.std.proofs.Common.{◌-◌, sym, ap, ◌∙◌}
+use Rattle.std.proofs.Common.{ℕ, List, sym, ap, ◌∙◌, arith}
 use Rattle.std.proofs.lemmas.Result.{err_from_is_err_and}
-use Rattle.journals.specs.Redo.{home}
+use Rattle.journals.specs.State.{home_of}
+use Rattle.layout.specs.Head.{head_of}
 use Rattle.carrying.specs.Standing.{standing_of}
+use Rattle.image.specs.Laws.Accepting.{tested_head}
 use Rattle.image.specs.Verdict.{replayed, judged}
 use Rattle.judging.proofs.Chaining.{opening_refused, record_refused, all_compared}
 use Rattle.judging.proofs.judge.judge.Goals as goal
@@ -9,23 +11,32 @@ use Rattle.judging.proofs.judge.judge.Goals as goal
 -- the opening is not valid
 pub returns-in_err-held : goal.returns-in_err-held
 returns-in_err-held g c =
-    let h = home (g.D.Drive.disk c.args.journal.now.drive).blocks in
+    let m = g.B.Book.meaning in
+    let h : List (List ℕ) = home_of c.args.reader.now in
     let p = err_from_is_err_and c.from_residual-in_err-held.result c.from_residual-in_err-held.ensures.1 in
-    let refused = opening_refused g.B.Book.meaning (c.size-room.result - 34) h c.in_ok-read_home.field-0 c.in_ok-head.head c.in_ok-read_home.ensures.found c.in_ok-head.ensures.value c.in_ok-read_blocks.field-0 c.in_ok-read_blocks.ensures.found _ c.in_err-held.ensures.value in
-    record { value = rw (p.1, p.2) (refused ∙ ap (λ z. judged g.B.Book.meaning (z - 34) h) c.size-room.ensures.value) }
+    let refused = opening_refused m c.room-room.result h c.head_block.result c.in_ok-head.head c.head_block.ensures.value c.in_ok-head.ensures.value c.opening.result c.opening.ensures.value _ c.in_err-held.ensures.value in
+    record { value = rw (p.1, p.2) (refused ∙ ap (λ z. judged m z h) c.room-room.ensures.value) }
+
+-- a head that passed counts no more records than there is room for
+pub replay-requires : goal.replay-requires
+replay-requires g c =
+    let passed = tested_head g.B.Book.meaning c.room-room.result (head_of c.head_block.result) c.in_ok-head.head (sym c.in_ok-head.ensures.value) in
+    record { within = omega (arith, passed.2, c.room-room.ensures.value) }
 
 -- a record is not lawful
 pub returns-in_err-replay : goal.returns-in_err-replay
 returns-in_err-replay g c =
-    let h = home (g.D.Drive.disk c.args.journal.now.drive).blocks in
-    let room = ap (λ z. replayed g.B.Book.meaning z h c.in_ok-head.head.count 1 (standing_of c.in_ok-held.held)) (sym c.in_ok-held.ensures.room) in
+    let m = g.B.Book.meaning in
+    let h : List (List ℕ) = home_of c.args.reader.now in
+    let room = ap (λ z. replayed m z h c.in_ok-head.head.count 1 (standing_of c.in_ok-held.held)) (sym c.in_ok-held.ensures.room) in
     let p = err_from_is_err_and c.from_residual-in_err-replay.result c.from_residual-in_err-replay.ensures.1 in
-    let refused = record_refused g.B.Book.meaning (c.size-room.result - 34) h c.in_ok-read_home.field-0 c.in_ok-head.head c.in_ok-read_home.ensures.found c.in_ok-head.ensures.value c.in_ok-read_blocks.field-0 c.in_ok-read_blocks.ensures.found (standing_of c.in_ok-held.held) c.in_ok-held.ensures.value _ (room ∙ c.in_err-replay.ensures.value) in
-    record { value = rw (p.1, p.2) (refused ∙ ap (λ z. judged g.B.Book.meaning (z - 34) h) c.size-room.ensures.value) }
+    let refused = record_refused m c.room-room.result h c.head_block.result c.in_ok-head.head c.head_block.ensures.value c.in_ok-head.ensures.value c.opening.result c.opening.ensures.value (standing_of c.in_ok-held.held) c.in_ok-held.ensures.value _ (room ∙ c.in_err-replay.ensures.replays) in
+    record { value = rw (p.1, p.2) (refused ∙ ap (λ z. judged m z h) c.room-room.ensures.value) }
 
 -- all that is left is the comparison
 pub returns : goal.returns
 returns g c =
-    let h = home (g.D.Drive.disk c.args.journal.now.drive).blocks in
-    let room = ap (λ z. replayed g.B.Book.meaning z h c.in_ok-head.head.count 1 (standing_of c.in_ok-held.held)) (sym c.in_ok-held.ensures.room) in
-    record { value = all_compared g.B.Book.meaning (c.size-room.result - 34) h c.in_ok-read_home.field-0 c.in_ok-head.head c.in_ok-read_home.ensures.found c.in_ok-head.ensures.value c.in_ok-read_blocks.field-0 c.in_ok-read_blocks.ensures.found (standing_of c.in_ok-held.held) c.in_ok-held.ensures.value (standing_of c.replay.new.held) c.compare.result (room ∙ c.in_ok-replay.ensures.value) c.compare.ensures.value ∙ ap (λ z. judged g.B.Book.meaning (z - 34) h) c.size-room.ensures.value }
+    let m = g.B.Book.meaning in
+    let h : List (List ℕ) = home_of c.args.reader.now in
+    let room = ap (λ z. replayed m z h c.in_ok-head.head.count 1 (standing_of c.in_ok-held.held)) (sym c.in_ok-held.ensures.room) in
+    record { value = all_compared m c.room-room.result h c.head_block.result c.in_ok-head.head c.head_block.ensures.value c.in_ok-head.ensures.value c.opening.result c.opening.ensures.value (standing_of c.in_ok-held.held) c.in_ok-held.ensures.value (standing_of c.replay.new.held) _ (room ∙ c.in_ok-replay.ensures.replays) c.compare.ensures.value ∙ ap (λ z. judged m z h) c.room-room.ensures.value }

@@ -1,5 +1,5 @@
 use Rattle.std.proofs.Common.{◌*◌, rules, tests}
-use Rattle.lists.proofs.Arrays.{made_by}
+use Rattle.lists.specs.Arrays.{made_by}
 use Rattle.rights.specs.Covers.{free}
 use Rattle.layout.specs.Rows.{row_from}
 use Rattle.layout.proofs.rows.read_rows.Goals as goal

@@ -1,13 +1,11 @@
-use Rattle.std.proofs.Common.{sym, ◌∙◌, rules}
+use Rattle.std.proofs.Common.{rules}
 use Rattle.std.proofs.lemmas.Iterator.{YieldsList-from_slice}
 use Rattle.std.proofs.lemmas.Iterator.Search.{all_from_yields_List}
 use borrow.Author.Tests.{tests}
 use Rattle.lexer.specs.Pieces.{printable}
-use Rattle.lexer.proofs.Cuts.{all_is_list_all}
 use Rattle.lexer.proofs.pieces.is_text.Goals as goal
 
--- `all` and the definition test every byte alike
 pub returns : goal.returns
 returns c =
     let each = all_from_yields_List printable _ _ c.all.result c.all.ensures.ran (YieldsList-from_slice c.args.line.now (cc)) (λ x b q k. search (rules, tests)) in
-    record { value = each ∙ sym (all_is_list_all printable c.args.line.now) }
+    record { value = each }

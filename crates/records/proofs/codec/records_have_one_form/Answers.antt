@@ -1,4 +1,4 @@
-use Rattle.records.proofs.Back.{one_form}
+use Rattle.records.specs.Laws.{one_form}
 use Rattle.records.proofs.codec.records_have_one_form.Goals as goal
 
 pub returns : goal.returns

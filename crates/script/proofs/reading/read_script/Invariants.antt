@@ -1,6 +1,5 @@
 use Rattle.std.proofs.Common.{◌≡◌, ◌+◌, ◌≤◌, length, None}
 use Rattle.std.specs.Iterator.Adapters.{zip_first, zip_second}
-use Rattle.lexer.specs.Left.{lines_left}
 use Rattle.lexer.specs.Pieces.{lines}
 use Rattle.script.specs.Reading.{reading, nothing_read, contents}
 use Rattle.script.proofs.reading.read_script.Given as goal
@@ -8,6 +7,6 @@ use Rattle.script.proofs.reading.read_script.Given as goal
 -- the reading of the lines that are left, after what was read, is the reading of the whole
 abbrev pub invariant-loop-number : goal.invariant-loop-number
 invariant-loop-number l = record {
-  whole : reading (zip_first l.number-iterator).start l.book (contents l.script) (lines_left (zip_second l.number-iterator)) ≡ reading 1 None nothing_read (lines l.text);
-  numbers_last : (zip_first l.number-iterator).start + length (lines_left (zip_second l.number-iterator)) ≤ 65538;
+  whole : reading (zip_first l.number-iterator).start l.book (contents l.script) (zip_second l.number-iterator) ≡ reading 1 None nothing_read (lines l.text);
+  numbers_last : (zip_first l.number-iterator).start + length (zip_second l.number-iterator) ≤ 65538;
 }

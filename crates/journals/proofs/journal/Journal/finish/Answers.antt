@@ -2,39 +2,71 @@ use Rattle.std.proofs.Common.{rules, ◌≡◌, Ok, Err, Result, sym, refl, ap, 
 use Rattle.std.proofs.lemmas.Bool.{both_ways}
 use Rattle.std.proofs.lemmas.Result.{MatchResult-weaker}
 use Rattle.drives.specs.declared.DriveFault.{DriveFault}
-use Rattle.drives.specs.Disk.{size, present}
+use Rattle.drives.specs.Disk.{Disk}
 use Rattle.changes.specs.Commit.{count_of, Lawful}
+use Rattle.journals.specs.Redo.{commit_block, named}
+use Rattle.journals.specs.State.{size, blocks}
+use Rattle.journals.specs.Steps.{Applied, CutApplying, Applies}
+use Rattle.journals.specs.Outcomes.{Finished, CutFinishing}
 use Rattle.journals.specs.declared.journal.FinishFault.{FinishFault}
 use Rattle.journals.specs.declared.journal.FinishFault.TheVariants.{PowerLost}
-use Rattle.journals.proofs.Reading.{was_read}
-use Rattle.journals.proofs.Crash.{lawful_same}
-use Rattle.journals.proofs.Finishing.{finished_nothing, finishes_named}
+use Rattle.journals.specs.Laws.{was_read}
+use Rattle.journals.specs.Laws.Clear.{lawful_same}
+use Rattle.journals.proofs.Mapped.{put_as}
+use Rattle.journals.proofs.Finishing.{named_wide, named_within, finished_as_is, finished_applied, finishing_cut}
 use Rattle.journals.proofs.journal.Journal.finish.Goals as goal
 
 -- the commit block names nothing
 pub returns-then-commit-eq0 : goal.returns-then-commit-eq0
 returns-then-commit-eq0 g c =
-    let d = g.D.Drive.disk c.args.self.now.drive in
+    let d : Disk = c.args.self.now in
     let read = was_read d 0 c.in-Ok.commit c.in-Ok.ensures.reads in
-    let lawful : Lawful (size d) (present d 0) = lawful_same (size d) _ (present d 0) _ (sym c.size.ensures.value) (sym read.content) (c.if-not-is_lawful.ensures.decides.0 refl) in
-    let zero : count_of (present d 0) ≡ 0 = ap count_of (sym read.content) ∙ c.if-commit-eq0.true in
+    let lawful : Lawful (size d) (commit_block (blocks d)) = lawful_same (size d) _ (commit_block (blocks d)) _ (sym c.size.ensures.value) (sym read.content) (c.if-not-is_lawful.ensures.decides.0 refl) in
+    let zero : count_of (commit_block (blocks d)) ≡ 0 = ap count_of (sym read.content) ∙ c.if-commit-eq0.true in
     record {
       finishes = record {
         refused_off = λ e. absurd (both_ways _ e read.on);
         refused_unlawful = λ e n. absurd (n lawful);
         nothing = λ e l z. refl;
-        met = λ e w l. finished_nothing d _ w lawful read.on zero refl;
+        met = λ e w l. finished_as_is d _ w lawful read.on zero refl;
       };
     }
+
+pub read_named-requires-clause-wide : goal.read_named-requires-clause-wide
+read_named-requires-clause-wide g c =
+    let d : Disk = c.args.self.now in
+    let read = was_read d 0 c.in-Ok.commit c.in-Ok.ensures.reads in
+    let lawful : Lawful (size d) (commit_block (blocks d)) = lawful_same (size d) _ (commit_block (blocks d)) _ (sym c.size.ensures.value) (sym read.content) (c.if-not-is_lawful.ensures.decides.0 refl) in
+    named_wide d lawful (λ z. c.if-commit-eq0.false (ap count_of read.content ∙ z))
+
+pub apply-requires-clause-within : goal.apply-requires-clause-within
+apply-requires-clause-within g c =
+    let d : Disk = c.args.self.now in
+    let read = was_read d 0 c.in-Ok.commit c.in-Ok.ensures.reads in
+    let lawful : Lawful (size d) (commit_block (blocks d)) = lawful_same (size d) _ (commit_block (blocks d)) _ (sym c.size.ensures.value) (sym read.content) (c.if-not-is_lawful.ensures.decides.0 refl) in
+    let hs = c.deref.result.now in
+    let same : hs ≡ named (blocks d) = search rules in
+    rw c.self.view_is (named_within d hs same lawful)
 
 -- it names some
 pub returns : goal.returns
 returns g c =
-    let d = g.D.Drive.disk c.args.self.now.drive in
+    let d : Disk = c.args.self.now in
     let read = was_read d 0 c.in-Ok.commit c.in-Ok.ensures.reads in
-    let lawful : Lawful (size d) (present d 0) = lawful_same (size d) _ (present d 0) _ (sym c.size.ensures.value) (sym read.content) (c.if-not-is_lawful.ensures.decides.0 refl) in
-    let c0 = c.in-Ok.commit in
-    let hs = c.deref.result.now in
+    let lawful : Lawful (size d) (commit_block (blocks d)) = lawful_same (size d) _ (commit_block (blocks d)) _ (sym c.size.ensures.value) (sym read.content) (c.if-not-is_lawful.ensures.decides.0 refl) in
+    let some : count_of (commit_block (blocks d)) ≡ 0 → ⊥ = λ z. c.if-commit-eq0.false (ap count_of read.content ∙ z) in
+    let wide = named_wide d lawful some in
+    let same : c.deref.result.now ≡ named (blocks d) = search rules in
     let m = c.map_err-2.result in
-    let said = MatchResult-weaker {X = Unit {0}} {Y = DriveFault} c.redo.result {P' = λ x. ◌≡◌ {A = Result (Unit {0}) FinishFault} m (Ok x)} {Q' = λ x. ◌≡◌ {A = Result (Unit {0}) FinishFault} m (Err PowerLost)} c.map_err-2.ensures.cases (λ x e. e) (λ y e. search rules) in
-    record { finishes = finishes_named d _ c0 hs read.on read.content lawful (search rules) c.if-commit-eq0.false (search rules) (search rules) _ m c.redo.ensures.redoes said }
+    let said = MatchResult-weaker {X = Unit {0}} {Y = DriveFault} c.apply.result {P' = λ x. ◌≡◌ {A = Result (Unit {0}) FinishFault} m (Ok x)} {Q' = λ x. ◌≡◌ {A = Result (Unit {0}) FinishFault} m (Err PowerLost)} c.map_err-2.ensures.cases (λ x e. e) (λ y e. search rules) in
+    let e : Disk = g.D.Drive.disk c.apply.new.drive in
+    let applies : Applies (named (blocks d)) d c.apply.result e = rw (← same, ← c.self.view_is) c.apply.ensures.applies in
+    record {
+      finishes = record {
+        refused_off = λ f. absurd (both_ways _ f read.on);
+        refused_unlawful = λ f n. absurd (n lawful);
+        nothing = λ f l z. absurd (some z);
+        met = λ f w l. put_as (Applied (named (blocks d)) d e) (Finished d e) (CutApplying (named (blocks d)) d e) (λ f. (f ≡ PowerLost) × CutFinishing d e) PowerLost c.apply.result m applies said
+            (finished_applied d e wide lawful) (λ a. (refl, finishing_cut d e wide lawful a));
+      };
+    }

@@ -12,7 +12,8 @@ use Rattle.lexer.proofs.pieces.WordsIterator.next.Goals as goal
 -- nothing but blanks is left
 pub returns-in_err-start-clause-steps : goal.returns-in_err-start-clause-steps
 returns-in_err-start-clause-steps c =
-    let line = c.args.self.now.rest.now in
+    let line = c.self.inside.rest.now in
+    let left = c.self.view_is in
     let at = position_from_yields_List solid _ _ c.position.result c.position.ensures.ran (YieldsList-from_slice line (cc)) (λ x b q k. search (rules, tests)) in
     let none = no_word line (sym at ∙ c.in_err-start.was) in
     grind arith
@@ -20,7 +21,8 @@ returns-in_err-start-clause-steps c =
 -- the next word stands after the blanks
 pub returns : goal.returns
 returns c =
-    let line = c.args.self.now.rest.now in
+    let line = c.self.inside.rest.now in
+    let left = c.self.view_is in
     let start = c.in_ok-start.start in
     let at = position_from_yields_List solid _ _ c.position.result c.position.ensures.ran (YieldsList-from_slice line (cc)) (λ x b q k. search (rules, tests)) in
     let word = take (length line - start) (drop start line) in

@@ -1,6 +1,7 @@
-use Rattle.monitor.proofs.Inspected.{accepted, accepted_steady}
+use Rattle.judging.specs.Laws.{accepted}
+use Rattle.monitor.proofs.Formatted.{accepted_steady}
 use Rattle.monitor.proofs.monitor.Monitor.attach.Goals as goal
 
 -- a lawful image was accepted
 pub invariant_of-self : goal.invariant_of-self
-invariant_of-self g c = record { steady = λ _. accepted_steady _ _ _ _ (accepted _ _ _ _ c.in-Ok.ensures.inspects) }
+invariant_of-self g c = λ _. accepted_steady _ _ _ _ (accepted _ _ _ _ c.in-Ok.ensures.inspects)

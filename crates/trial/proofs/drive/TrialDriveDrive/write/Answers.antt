@@ -1,6 +1,7 @@
-use Rattle.std.proofs.Common.{arith, rules}
+use Rattle.std.proofs.Common.{◌≡◌, ap, ◌∙◌, arith, rules}
 use Rattle.std.proofs.lemmas.Grind.{common_steps}
-use Rattle.trial.specs.State.{state_of}
+use Rattle.trial.specs.Bytes.{with_block}
+use Rattle.trial.specs.State.{State}
 use Rattle.trial.proofs.Blocks.{length_blocks}
 use Rattle.trial.proofs.Kept.{writes_done, writes_cut}
 use Rattle.trial.proofs.drive.TrialDriveDrive.write.Goals as goal
@@ -9,10 +10,16 @@ use Rattle.trial.proofs.drive.TrialDriveDrive.write.Goals.{then-lands, else-land
 pub returns-in_err-check-clause-writes : goal.returns-in_err-check-clause-writes
 returns-in_err-check-clause-writes c = grind (arith, common_steps, length_blocks)
 
+-- The turn leaves the bytes and power as they were.
 pub returns-in-Done-clause-writes : goal.returns-in-Done-clause-writes
 returns-in-Done-clause-writes c =
-    writes_done (state_of c.args.self.now) _ _ _ _ c.in_ok-check.ensures.value c.take_turn.ensures.same_power (search rules)
+    let before : _ ≡ c.args.self.now.bytes = ap (λ (s : State). s.bytes) (c.self.view_is ∙ c.take_turn.ensures.burns) in
+    let on = ap (λ (s : State). s.on) (c.self.view_is ∙ c.take_turn.ensures.burns) in
+    writes_done c.args.self.now _ _ _ _ c.in_ok-check.ensures.value on
+    (c.store.ensures.after ∙ ap (λ bs. with_block bs c.args.block c.args.content.now) before)
 
 -- It landed or not.
 pub returns-after-lands-clause-writes : goal.returns-after-lands-clause-writes
-returns-after-lands-clause-writes c = writes_cut (state_of c.args.self.now) c.in-Lost.lands _ _ _ c.in_ok-check.ensures.value (search rules)
+returns-after-lands-clause-writes c =
+    let before : _ ≡ c.args.self.now.bytes = ap (λ (s : State). s.bytes) (c.self.view_is ∙ c.take_turn.ensures.burns) in
+    writes_cut c.args.self.now c.in-Lost.lands _ _ _ c.in_ok-check.ensures.value (rw (← before) (search rules))

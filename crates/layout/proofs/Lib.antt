@@ -1,2 +1,0 @@
-mod Apart
-pub mod Back

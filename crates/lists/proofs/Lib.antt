@@ -1,3 +1,0 @@
-pub mod Arrays
-pub mod Elements
-pub mod Parts

@@ -1,0 +1,14 @@
+use Rattle.std.proofs.Common.{◌∙◌}
+use Rattle.std.proofs.lemmas.Result.{err_from_is_err_and}
+use Rattle.carrying.specs.Rows.{certified}
+use Rattle.monitor.proofs.Tests.{of_books}
+use Rattle.monitor.proofs.certifying.certified.Goals as goal
+
+pub returns-in_err-certify-clause-gives : goal.returns-in_err-certify-clause-gives
+returns-in_err-certify-clause-gives g c =
+    let p = err_from_is_err_and c.from_residual.result c.from_residual.ensures.1 in
+    rw (p.1, p.2) (of_books (λ k s. certified g.B.Book.meaning k s c.args.draft) _ _ _ _ c.held-held.ensures.room c.held-held.ensures.value ∙ c.in_err-certify.ensures.leaves.carries.0)
+
+pub returns-clause-gives : goal.returns-clause-gives
+returns-clause-gives g c =
+    of_books (λ k s. certified g.B.Book.meaning k s c.args.draft) _ _ _ _ c.held-held.ensures.room c.held-held.ensures.value ∙ c.in_ok-certify.ensures.leaves.carries
