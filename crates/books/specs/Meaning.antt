@@ -1,5 +1,5 @@
 -- What a book means to the monitor that keeps it, and the laws that every book obeys.
-use Rattle.std.specs.Prelude.{◌≡◌, ℕ, ◌^◌, ◌<◌, ◌≤◌, Bool, true, false, ◌&&◌, ◌⊎◌, List, length, Ok, Err, Result, ◌≢◌, nat_le, slice_index, slice_set}
+use Rattle.std.specs.Prelude.{◌≡◌, ℕ, ◌^◌, ◌<◌, ◌≤◌, Bool, true, false, ◌&&◌, ◌⊎◌, ◌↔◌, List, length, Ok, Err, Result, ◌≢◌, nat_le, slice_index, slice_set}
 use Rattle.refusals.specs.declared.step_place.StepPlace.{StepPlace}
 use Rattle.refusals.specs.declared.step_place.StepPlace.TheVariants.{Items, Amount}
 use Rattle.books.specs.declared.draft.Draft.{Draft}
@@ -34,6 +34,10 @@ CeilingInRange m = m.ceiling ≤ 1000000000
 abbrev pub codes_at : List ℕ → ℕ → ℕ → ℕ × ℕ
 codes_at codes a b = (slice_index codes a, slice_index codes b)
 
+-- a valid list has a code for each of the 64 items
+abbrev pub ValidHas64Codes : Meaning → Type 0
+ValidHas64Codes m = (codes : List ℕ) → m.valid codes ≡ true → length codes ≡ 64
+
 -- a valid list stays valid when the codes of two different items are replaced by what the step gives
 abbrev pub StepKeepsValid : Meaning → Type 0
 StepKeepsValid m =
@@ -43,8 +47,9 @@ StepKeepsValid m =
     m.step d (codes_at codes d.a d.b) ≡ Ok (x, y) →
     m.valid (slice_set (slice_set codes d.a x) d.b y) ≡ true
 
--- the step's tests in their order: place 1 is a procedure without a word or items that it does not take, whatever the
--- codes and the amount; place 2 an amount that is not from 1 to the ceiling
+-- the step's tests in their order. Place 1 is a procedure without a word or items that it does not take, whatever the
+-- codes and the amount. Place 2 is an amount that the procedure does not take, whatever the codes and the items, but that
+-- place 1 comes first; no procedure takes an amount outside 1 to the ceiling
 pub record StepTests (m : Meaning) : Type 0 where
   pub needs_word : (d : Draft) (codes : ℕ × ℕ) → has_procedure m d.procedure ≡ false → m.step d codes ≡ Err Items
   pub items_alone :
@@ -54,7 +59,17 @@ pub record StepTests (m : Meaning) : Type 0 where
       (d : Draft) (codes : ℕ × ℕ) → amount_ok m.ceiling d.amount ≡ false →
       (m.step d codes ≡ Err Items) ⊎ (m.step d codes ≡ Err Amount)
   pub amount_alone :
-      (d : Draft) (codes : ℕ × ℕ) → m.step d codes ≡ Err Amount → amount_ok m.ceiling d.amount ≡ false
+      (d : Draft) (codes codes' : ℕ × ℕ) (a b : ℕ) → m.step d codes ≡ Err Amount →
+      (m.step (record d { a = a; b = b }) codes' ≡ Err Items)
+      ⊎ (m.step (record d { a = a; b = b }) codes' ≡ Err Amount)
+
+-- place 2 is exactly an amount outside 1 to the ceiling, where the step takes the items. A book need not be so: its
+-- procedures may have bounds of their own
+abbrev pub AmountTestIsCeiling : Meaning → Type 0
+AmountTestIsCeiling m =
+    (d : Draft) (codes : ℕ × ℕ) →
+    (m.step d codes ≡ Err Amount)
+    ↔ ((m.step d codes ≢ Err Items) × (amount_ok m.ceiling d.amount ≡ false))
 
 -- from codes of 64 bits the step gives codes of 64 bits
 abbrev pub StepGivesCodes : Meaning → Type 0

@@ -1,6 +1,6 @@
 ghost use Rattle.std.specs.Prelude.{◌≡◌, ℕ, ◌^◌, ◌<◌, length};
 ghost use Rattle.std.specs.Option.{option_map};
-ghost use Rattle.books.specs.Meaning.{Meaning, KindInRange, CeilingInRange, StepTests, StepGivesCodes, StepKeepsValid};
+ghost use Rattle.books.specs.Meaning.{Meaning, KindInRange, CeilingInRange, ValidHas64Codes, StepTests, StepGivesCodes, StepKeepsValid};
 ghost use Rattle.books.specs.Words.{FewWords, ProperWords, word_of};
 
 use crate::draft::Draft;
@@ -59,6 +59,8 @@ pub trait Book {
     ghost few_words: { FewWords meaning };
 
     ghost proper_words: { ProperWords meaning };
+
+    ghost valid_has_64_codes: { ValidHas64Codes meaning };
 
     ghost step_tests: { StepTests meaning };
 

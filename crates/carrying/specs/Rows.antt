@@ -1,5 +1,5 @@
 -- When a row may be filled or freed.
-use Rattle.std.specs.Prelude.{ℕ, ◌<◌, ◌≤◌, if◌then◌else◌, not, ◌&&◌, ◌||◌, Ok, Result, ◌==◌, nat_le, nat_lt, slice_index_or}
+use Rattle.std.specs.Prelude.{ℕ, ◌<◌, ◌≤◌, if◌then◌else◌, not, ◌&&◌, Ok, Result, ◌==◌, nat_le, nat_lt, slice_index_or}
 use Rattle.refusals.specs.declared.reasons.Reason.TheVariants.{AuditFull, BadRow, RowTaken}
 use Rattle.refusals.specs.declared.refusal.Refusal.{Refusal}
 use Rattle.refusals.specs.declared.row_place.RowPlace.{RowPlace}
@@ -7,7 +7,7 @@ use Rattle.refusals.specs.declared.row_place.RowPlace.TheVariants as at
 use Rattle.refusals.specs.Places.{row_place_number}
 use Rattle.refusals.specs.Refused.{refused, ◌>>=◌, ◌>>◌}
 use Rattle.books.specs.Meaning.{Meaning, has_procedure}
-use Rattle.rights.specs.Covers.{free, is_free}
+use Rattle.rights.specs.Covers.{is_role, free, is_free}
 use Rattle.rights.specs.declared.row.Row.{Row}
 use Rattle.records.specs.declared.record.Certification.{Certification}
 use Rattle.carrying.specs.declared.row_draft.RowDraft.{RowDraft}
@@ -39,7 +39,7 @@ checked_row m d =
     if not (nat_le d.row 31) then bad_row at.Row
     else if not (nat_le 1 d.user && nat_le d.user 15) then bad_row at.User
     else if not (has_procedure m d.procedure) then bad_row at.Procedure
-    else if not (d.role == 1 || d.role == 2) then bad_row at.Role
+    else if not (is_role d.role) then bad_row at.Role
     else if d.mask == 0 then bad_row at.Mask
     else Ok (asked_row d)
 

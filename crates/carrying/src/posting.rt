@@ -56,17 +56,18 @@ impl Held {
         &mut self,
         book: &B,
         note: &Note,
-        codes: (u64, u64),
+        code_a: u64,
+        code_b: u64,
     ) -> Result<(), Refusal>
         requires room { self.old.count + 1 < 18446744073709551616 }
-        ensures leaves { Leaves
-            (if_valid B.meaning (with_codes (standing_of self.old) note.now.a note.now.b codes))
+        ensures leaves { Leaves (if_valid B.meaning
+            (with_codes (standing_of self.old) note.now.a note.now.b (code_a, code_b)))
             self.old result self.new }
     {
         let numbers = note.numbers();
         let mut after = self.items;
-        after[usize::from(numbers.a)] = codes.0;
-        after[usize::from(numbers.b)] = codes.1;
+        after[usize::from(numbers.a)] = code_a;
+        after[usize::from(numbers.b)] = code_b;
         if !book.verify(&after) {
             return Err(Refusal::at(Reason::InvalidAfter, 0));
         }
@@ -111,10 +112,10 @@ impl Held {
             self.items[usize::from(numbers.a)],
             self.items[usize::from(numbers.b)],
         );
-        let new = book
+        let (code_a, code_b) = book
             .step(draft_of(posting), codes)
             .map_err(|place| Refusal::at(Reason::StepRefused, place.into()))?;
-        self.take_codes(book, note, new)
+        self.take_codes(book, note, code_a, code_b)
     }
 
     /// Posts what a record says, after the four tests of its note.

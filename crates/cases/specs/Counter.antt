@@ -1,24 +1,28 @@
 -- Worked examples from the counter, as the rows of one table: what the definitions give, and what they should give.
 use Rattle.std.specs.Prelude.{◌≡◌, ℕ, List, [], ◌∷◌, replicate, ℤ, negsuc, Ok, Err, Result, slice_set}
 use Rattle.std.specs.List.{AllByRecursion}
-use Rattle.refusals.specs.declared.reasons.Reason.TheVariants.{NoSuchNoteItem, SameItem, BadAmount}
 use Rattle.refusals.specs.declared.refusal.Refusal.{Refusal}
 use Rattle.refusals.specs.declared.step_place.StepPlace.{StepPlace}
-use Rattle.refusals.specs.declared.step_place.StepPlace.TheVariants.{Values}
-use Rattle.refusals.specs.Refused.{refused}
+use Rattle.refusals.specs.Numbers.{number}
 use Rattle.books.specs.declared.draft.Draft.{Draft}
 use Rattle.books.specs.Meaning.{Meaning, codes_at}
 use Rattle.ledger.specs.Ledger.{ledger, balance}
 use Rattle.stock.specs.Stock.{stock, reels_code}
 use Rattle.notes.specs.Notes.{noted}
 use Rattle.notes.specs.declared.numbers.Numbers.{Numbers}
+use Rattle.carrying.specs.Carried.{codes_given}
+
+-- an answer as people see it: what was given, or the refusal's number and place
+abbrev pub seen : {X : Type 0} → Result X Refusal → Result X (ℕ × ℕ)
+seen (Ok x) = Ok x
+seen (Err e) = Err (number e.reason, e.place)
 
 -- one example each
 pub data Row : Type 0 where
   -- a draft that is made a note or refused
-  making : Meaning → Draft → Result Numbers Refusal → Row
-  -- a step on two codes
-  stepping : Meaning → Draft → ℕ × ℕ → Result (ℕ × ℕ) StepPlace → Row
+  making : Meaning → Draft → Result Numbers (ℕ × ℕ) → Row
+  -- a step on two codes, as a posting answers it
+  stepping : Meaning → Draft → ℕ × ℕ → Result (ℕ × ℕ) (ℕ × ℕ) → Row
   -- the codes of a list after a step on it
   posting : Meaning → List ℕ → Draft → List ℕ → Row
   -- the balance of a code
@@ -33,8 +37,8 @@ stepped cs d (Err e) = cs
 
 -- the definitions give the row's answer
 abbrev pub Gives : Row → Type 0
-Gives (making m d answer) = noted m d ≡ answer
-Gives (stepping m d before answer) = m.step d before ≡ answer
+Gives (making m d answer) = seen (noted m d) ≡ answer
+Gives (stepping m d before answer) = seen (codes_given (m.step d before)) ≡ answer
 Gives (posting m cs d after) = stepped cs d (m.step d (codes_at cs d.a d.b)) ≡ after
 Gives (balancing code pence) = balance code ≡ pence
 Gives (coding h m code) = reels_code h m ≡ code
@@ -44,7 +48,7 @@ abbrev pub typed : ℕ → ℕ → ℕ → ℕ → Draft
 typed p a b n = record { procedure = p; a = a; b = b; amount = n }
 
 -- a ledger note that was made
-abbrev pub charged : ℕ → Result Numbers Refusal
+abbrev pub charged : ℕ → Result Numbers (ℕ × ℕ)
 charged n = Ok (record { kind = 1; procedure = 1; a = 8; b = 0; amount = n })
 
 -- an empty ledger, and the same after a charge of 4500 on item 8
@@ -57,16 +61,16 @@ charged_ledger = slice_set (slice_set empty_ledger 8 4500) 0 1844674407370954711
 abbrev pub table : List Row
 table =
     making ledger (typed 1 8 0 1000000000) (charged 1000000000)
-    ∷ (making ledger (typed 1 8 0 1000000001) (refused BadAmount 1000000001)
-    ∷ (making ledger (typed 1 8 8 4500) (refused SameItem 8)
-    ∷ (making ledger (typed 1 64 64 4500) (refused NoSuchNoteItem 64)
+    ∷ (making ledger (typed 1 8 0 1000000001) (Err (4, 1000000001))
+    ∷ (making ledger (typed 1 8 8 4500) (Err (3, 8))
+    ∷ (making ledger (typed 1 64 64 4500) (Err (2, 64))
     ∷ (stepping ledger (typed 1 8 0 1) (999999999999, 0) (Ok (1000000000000, 18446744073709551615))
-    ∷ (stepping ledger (typed 1 8 0 2) (999999999999, 0) (Err Values)
+    ∷ (stepping ledger (typed 1 8 0 2) (999999999999, 0) (Err (14, 3))
     ∷ (posting ledger empty_ledger (typed 1 8 0 4500) charged_ledger
     ∷ (balancing 18446744073709547116 (negsuc 4499)
     ∷ (coding 4 10 42949672964
     ∷ (stepping stock (typed 2 1 0 6) (42949672964, 42949672964) (Ok (42949672970, 42949672970))
-    ∷ (stepping stock (typed 2 1 0 7) (42949672964, 42949672964) (Err Values)
+    ∷ (stepping stock (typed 2 1 0 7) (42949672964, 42949672964) (Err (14, 3))
     ∷ []))))))))))
 
 abbrev pub ExamplesStand : Type 0

@@ -5,8 +5,8 @@ use Rattle.std.proofs.lemmas.List.{length-append}
 use Rattle.books.specs.Meaning.{Meaning}
 use Rattle.script.specs.Reading.{Gathered, AskedAt}
 use Rattle.monitor.specs.Machine.{Machine}
-use Rattle.desk.specs.declared.answer.Answer.{Answer}
-use Rattle.desk.specs.Serving.{Request, Desk, Session, begun, then}
+use Rattle.desk.specs.declared.told.Told.{Told}
+use Rattle.desk.specs.Serving.{Requested, Desk, Session, begun, then}
 use Rattle.day.specs.declared.reply.Source.{Source}
 use Rattle.day.specs.declared.reply.Source.TheVariants.{Format, Attach, Line}
 use Rattle.day.specs.declared.reply.Said.{Said}
@@ -17,22 +17,22 @@ use Rattle.day.specs.Replies.{replies_of}
 use Rattle.day.specs.Running.{all_sources}
 
 -- a session has an answer for each request
-pub as_many : (m : Meaning) (w : Desk) (cs : List Request) (rs : List Answer) (v : Desk) → Session m w cs rs v → length rs ≡ length cs
+pub as_many : (m : Meaning) (w : Desk) (cs : List Requested) (rs : List Told) (v : Desk) → Session m w cs rs v → length rs ≡ length cs
 as_many m w _ _ _ begun = refl
-as_many m w _ _ _ (then {cs} {rs} {u} {v} c a h k) =
-    length-append rs (a ∷ []) ∙ ap (λ n. n + 1) (as_many m w cs rs u h) ∙ sym (length-append cs (c ∷ []))
+as_many m w _ _ _ (then {qs} {rs} {u} {v} q a h k) =
+    length-append rs (a ∷ []) ∙ ap (λ n. n + 1) (as_many m w qs rs u h) ∙ sym (length-append qs (q ∷ []))
 
 abbrev pub sources : List Reply → List Source
 sources rs = map (λ (r : Reply). r.source) rs
 
 module _ (g : Gathered) where
-  abbrev pub asked : List AskedAt → List Request
+  abbrev pub asked : List AskedAt → List Requested
   asked cs = flat_map (λ (c : AskedAt). asks (planned g c.asked)) cs
 
   -- one line more, by its plan
   one_line :
-      (k : ℕ) (p : Result Request Said) (cs : List AskedAt) (answers : List Answer)
-      → ((later : List Answer) → length later ≡ length (asked cs) → sources (replies_of (map (expected_of g) cs) later) ≡ map (λ (c : AskedAt). Line c.line) cs)
+      (k : ℕ) (p : Result Requested Said) (cs : List AskedAt) (answers : List Told)
+      → ((later : List Told) → length later ≡ length (asked cs) → sources (replies_of (map (expected_of g) cs) later) ≡ map (λ (c : AskedAt). Line c.line) cs)
       → length answers ≡ length (asks p ++ asked cs)
       → sources (replies_of (record { source = Line k; said = said_at_once p } ∷ map (expected_of g) cs) answers) ≡ Line k ∷ map (λ (c : AskedAt). Line c.line) cs
   one_line k (Err s) cs answers rest e = ap (λ z. Line k ∷ z) (rest answers e)
@@ -43,13 +43,13 @@ module _ (g : Gathered) where
 
   -- every command's line is replied to
   every_line :
-      (cs : List AskedAt) (answers : List Answer) → length answers ≡ length (asked cs)
+      (cs : List AskedAt) (answers : List Told) → length answers ≡ length (asked cs)
       → sources (replies_of (map (expected_of g) cs) answers) ≡ map (λ (c : AskedAt). Line c.line) cs
   every_line [] answers e = refl
   every_line (c ∷ cs) answers e = one_line c.line (planned g c.asked) cs answers (every_line cs) e
 
   replied :
-      (cs : List AskedAt) (firsts answers : List Answer) → length firsts ≡ 1 → length answers ≡ 1 + length (asked cs)
+      (cs : List AskedAt) (firsts answers : List Told) → length firsts ≡ 1 → length answers ≡ 1 + length (asked cs)
       → sources (replies_of (all_expected g cs) (firsts ++ answers)) ≡ all_sources cs
   replied cs [] answers e f = absurd (omega arith)
   replied cs (a ∷ (b ∷ more)) answers e f = absurd (omega arith)
@@ -60,8 +60,8 @@ module _ (g : Gathered) where
 
   -- of a day that was kept
   pub everything :
-      (m : Meaning) (bytes : List ℕ) (cs : List AskedAt) (firsts answers looks : List Answer) (end : Machine)
-      → Kept m bytes (first_requests g) (requests_of g cs) firsts answers looks end
+      (m : Meaning) (bs : List (List ℕ)) (cs : List AskedAt) (firsts answers looks : List Told) (end : Machine)
+      → Kept m bs g (requests_of g cs) firsts answers looks end
       → sources (replies_of (all_expected g cs) (firsts ++ answers)) ≡ all_sources cs
-  everything m bytes cs firsts answers looks end k =
+  everything m bs cs firsts answers looks end k =
       replied cs firsts answers (as_many m _ _ firsts _ k.starts.session) (as_many m _ _ answers _ k.day.session ∙ omega arith)

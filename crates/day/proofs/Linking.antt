@@ -1,65 +1,122 @@
--- Sessions one after another, and the history of them all.
-use Rattle.std.proofs.Common.{◌≡◌, ℕ, Bool, false, List, [], ◌++◌, Result, IfOk, refl, sym, ap, subst, ◌∙◌}
+-- The parts of a day one after another, and the history of them all.
+use Rattle.std.proofs.Common.{◌≡◌, ℕ, Bool, false, List, [], ◌++◌, Ok, Err, Result, IfOk, OnErr, refl, sym, ap, subst, ◌∙◌}
 use Rattle.std.specs.declared.alloc.AllocError.{AllocError}
+use Rattle.std.specs.Prelude.{MatchResult, vec_items}
 use Rattle.books.specs.Meaning.{Meaning}
-use Rattle.drives.specs.Disk.{May}
-use Rattle.trial.specs.Bytes.{disk_of}
-use Rattle.trial.specs.State.{State, disk}
+use Rattle.drives.specs.Disk.{Disk, May}
+use Rattle.trial.specs.Bytes.{blocks_of, disk_with, disk_of}
+use Rattle.trial.specs.State.{State, disk, fresh}
 use Rattle.journals.specs.State as journal
+use Rattle.script.specs.Reading.{Gathered}
 use Rattle.monitor.specs.declared.stage.Stage.TheVariants.{Shut}
 use Rattle.monitor.specs.Machine.{Machine, machine}
-use Rattle.histories.specs.Events.{Event, History, begun, again}
-use Rattle.desk.specs.declared.answer.Answer.{Answer}
-use Rattle.desk.specs.Serving.{Request, Served}
+use Rattle.histories.specs.Events.{begun, again, onto}
+use Rattle.desk.specs.declared.told.Told.{Told}
+use Rattle.desk.specs.Serving.{Requested, Served}
 use Rattle.day.specs.declared.keeping.Day.{Day}
-use Rattle.day.specs.Keeping.{shut_over, every_record, Kept, KeptAs}
+use Rattle.day.specs.declared.keeping.Left.{Left}
+use Rattle.day.specs.Running.{new_drive, KeptNew}
+use Rattle.day.specs.Keeping.{shut_over, blocks_on, every_record, Kept, KeptAs, KeptOr, KeepsDay, BrokenOff, before_format, before_requests, before_looks}
+use Rattle.day.specs.Parts.{TakenBack, Begun, Looked, Stopped, unserved, unlooked, GoesOn, WentOn, KeptOn}
+use Rattle.day.specs.Planning.{first_requests}
 
 -- a fresh trial drive on the bytes of another takes it over
 pub takes_over : (on : Bool) (bytes : List ℕ) → journal.TakenOver (disk_of on bytes) (disk_of false bytes)
 unfolding May
 takes_over on bytes = record { same_size = refl; no_more = λ i x l h. h }
 
+-- the history of the three parts
 pub kept :
-    (m : Meaning) (bytes left : List ℕ) (first calls : List Request) (firsts answers audit : List Answer) (s t u : Machine)
-    → Served m (shut_over bytes) first firsts s → journal.TakenOver s.disk (disk_of false left)
-    → Served m (shut_over left) calls answers t → Served m t every_record audit u
-    → Kept m bytes first calls firsts answers audit u
-kept m bytes left first calls firsts answers audit s t u a o b c =
-    let h : History m (a.desk.happened ++ []) s = a.history [] begun in
-    let past : List Event = b.desk.happened ++ (a.desk.happened ++ []) in
-    let g : History m past t = b.history (a.desk.happened ++ []) (again h o) in
+    (m : Meaning) (bs : List (List ℕ)) (g : Gathered) (requests : List Requested) (firsts told looks : List Told) (s t u : Machine)
+    → Served m (shut_over bs) (first_requests g) firsts s → journal.TakenOver s.disk (disk_with false (blocks_on s))
+    → Served m (shut_over (blocks_on s)) requests told t → Served m t every_record looks u
+    → Kept m bs g requests firsts told looks u
+kept m bs g requests firsts told looks s t u a o b c =
     record {
       started = s;
-      left = left;
       closed = t;
       starts = a;
-      taken_over = o;
+      takes_over = o;
       day = b;
-      looks = c;
-      happened = c.desk.happened ++ past;
-      history = c.history past g;
-      law = c.law past g;
+      looked = c;
+      law = c.law.law _ (onto (again (onto begun a.law.run) o) b.law.run);
     }
 
 -- a monitor that was made over a fresh trial drive
 pub opened_as :
-    (s : Machine) (d : State) (bytes : List ℕ) → s ≡ machine Shut (disk d) → disk d ≡ disk_of false bytes → s ≡ shut_over bytes
+    (s : Machine) (d : State) (bytes : List ℕ) → s ≡ machine Shut (disk d) → disk d ≡ disk_of false bytes → s ≡ shut_over (blocks_of bytes)
 opened_as s d bytes p e = p ∙ ap (λ z. machine Shut z) e
 
--- what was served from a machine by another name
-pub served_as : (m : Meaning) (s t u : Machine) (calls asked : List Request) (answers : List Answer) → s ≡ t → calls ≡ asked → Served m s calls answers u → Served m t asked answers u
-served_as m s t u calls asked answers e f h = subst (λ z. Served m t z answers u) f (subst (λ z. Served m z calls answers u) e h)
+-- what was served from a machine by another name, of requests by another name
+pub served_as : (m : Meaning) (s t u : Machine) (asked requests : List Requested) (told : List Told) → s ≡ t → asked ≡ requests → Served m s asked told u → Served m t requests told u
+served_as m s t u asked requests told e f h = subst (λ z. Served m t z told u) f (subst (λ z. Served m z asked told u) e h)
 
 -- the bytes that were taken back from a trial drive, whose monitor stood on it
-pub taken :
-    (d : State) (left : List ℕ) (e : journal.State) → disk d ≡ e → left ≡ d.bytes → journal.TakenOver e (disk_of false left)
-taken d left e p q =
-    subst (λ (z : journal.State). journal.TakenOver z (disk_of false left)) p
-    (subst (λ z. journal.TakenOver (disk d) (disk_of false z)) (sym q) (takes_over d.on d.bytes))
+pub taken_back :
+    (d : State) (left : List ℕ) (s : Machine) → disk d ≡ s.disk → left ≡ d.bytes → TakenBack s left
+taken_back d left s p q =
+    record {
+      same = ap blocks_of q ∙ ap (λ (z : Disk). z.blocks) p;
+      takes_over =
+          subst (λ (z : journal.State). journal.TakenOver z (disk_of false left)) p
+          (subst (λ z. journal.TakenOver (disk d) (disk_of false z)) (sym q) (takes_over d.on d.bytes));
+    }
 
--- a kept day by other names of its bytes and first requests
-pub kept_as :
-    (m : Meaning) (b c : List ℕ) (f g q : List Request) (r : Result Day AllocError)
-    → b ≡ c → f ≡ g → IfOk r (KeptAs m b f q) → IfOk r (KeptAs m c g q)
-kept_as m b c f g q r x y k =
-    subst (λ z. IfOk r (KeptAs m c z q)) y (subst (λ z. IfOk r (KeptAs m z f q)) x k)
+-- what holds of an answer that is no refusal
+pub if_ok : {X E : Type 0} (r : Result X E) (P Q : X → Type 0) → ((x : X) → P x → Q x) → IfOk r P → IfOk r Q
+if_ok (Ok x) P Q f p = f x p
+if_ok (Err e) P Q f p = tt
+
+-- the day went on from what the first part left
+pub goes_on :
+    (m : Meaning) (bytes left after : List ℕ) (g : Gathered) (requests : List Requested) (firsts : List Told) (r : Result Day AllocError)
+    → Begun m bytes g firsts left → WentOn m (shut_over (blocks_of left)) requests firsts r after → KeptOn m bytes g requests r after
+goes_on m bytes left after g requests firsts (Ok d) (s, starts, back) (t, (is, at, k), same) =
+    let here : shut_over (blocks_of left) ≡ shut_over (blocks_on s) = ap shut_over back.same in
+    let over : journal.TakenOver s.disk (disk_with false (blocks_on s)) = subst (λ z. journal.TakenOver s.disk (disk_with false z)) back.same back.takes_over in
+    let day = served_as m _ (shut_over (blocks_on s)) k.closed requests requests _ here refl k.requests_served in
+    let told = subst (λ z. Served m (shut_over (blocks_of bytes)) (first_requests g) z s) (sym is) starts in
+    (t, sym at, sym same, kept m (blocks_of bytes) g requests (vec_items d.firsts) (vec_items d.told) (vec_items d.looks) s k.closed t told over day k.looks_served)
+goes_on m bytes left after g requests firsts (Err e) (s, starts, back) (t, stopped, same) =
+    let here : shut_over (blocks_of left) ≡ shut_over (blocks_on s) = ap shut_over back.same in
+    subst (BrokenOff m (blocks_of bytes) g requests) (sym same) (broken stopped here) where
+      broken : Stopped m (shut_over (blocks_of left)) requests t → shut_over (blocks_of left) ≡ shut_over (blocks_on s) → BrokenOff m (blocks_of bytes) g requests (blocks_on t)
+      broken (unserved is) here = subst (λ (z : Machine). BrokenOff m (blocks_of bytes) g requests (blocks_on z)) (sym (is ∙ here)) (before_requests starts)
+      broken (unlooked k) here = before_looks starts (served_as m _ (shut_over (blocks_on s)) t requests requests _ here refl k)
+
+-- memory was wanted before the format
+pub never_begun :
+    (m : Meaning) (bytes left : List ℕ) (g : Gathered) (requests : List Requested) (e : AllocError)
+    → blocks_of left ≡ blocks_of bytes → KeptOn m bytes g requests (Err e) left
+never_begun m bytes left g requests e same = subst (BrokenOff m (blocks_of bytes) g requests) (sym same) before_format
+
+-- by an answer
+pub begun_with : {X E : Type 0} (r : Result X E) (x : X) (P : X → Type 0) → r ≡ Ok x → IfOk r P → P x
+begun_with r x P e k = subst (λ z. IfOk z P) e k
+
+pub unbegun_with : {X E : Type 0} (r : Result X E) (x : E) (P : Type 0) → r ≡ Err x → OnErr r P → P
+unbegun_with r x P e k = subst (λ z. OnErr z P) e k
+
+-- a day that stopped, by its answer
+pub stopped_as :
+    (m : Meaning) (s t : Machine) (requests : List Requested) (firsts : List Told) (r : Result Day AllocError) (e : AllocError)
+    → r ≡ Err e → Stopped m s requests t → GoesOn m s requests firsts r t
+stopped_as m s t requests firsts r e is k = subst (λ z. GoesOn m s requests firsts z t) (sym is) k
+
+-- nothing was looked at
+pub unlooked_at :
+    {m : Meaning} {s t u : Machine} {requests : List Requested} {told : List Told} → u ≡ t → Served m s requests told t → Stopped m s requests u
+unlooked_at {m} {s} {t} {u} {requests} {told} e k = subst (λ (z : Machine). Stopped m s requests z) (sym e) (unlooked k)
+
+-- a day on a new drive
+pub kept_new :
+    (m : Meaning) (bytes : List ℕ) (g : Gathered) (requests : List Requested) (r : Result Day AllocError) (left : Left)
+    → bytes ≡ new_drive → KeepsDay m bytes g requests r left → IfOk r (KeptNew m g requests)
+kept_new m bytes g requests (Ok d) left e k = (k.last, subst (λ z. KeptAs m (blocks_of z) g requests d k.last) e k.kept)
+kept_new m bytes g requests (Err x) left e k = tt
+
+-- what went on from a drive that is the bytes that were left
+pub went_from :
+    (m : Meaning) (d : State) (bytes cuts left : List ℕ) (requests : List Requested) (firsts : List Told) (r : Result Day AllocError)
+    → d ≡ fresh bytes cuts → WentOn m (machine Shut (disk d)) requests firsts r left → WentOn m (shut_over (blocks_of bytes)) requests firsts r left
+went_from m d bytes cuts left requests firsts r e k = subst (λ (z : State). WentOn m (machine Shut (disk z)) requests firsts r left) e k

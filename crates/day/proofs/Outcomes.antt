@@ -8,31 +8,30 @@ use Rattle.monitor.specs.declared.stage.Stage.{Stage}
 use Rattle.day.specs.declared.keeping.Day.{Day}
 use Rattle.day.specs.declared.planning.Expected.{Expected}
 use Rattle.day.specs.declared.running.Outcome.{Outcome}
-use Rattle.day.specs.Keeping.{KeptAs}
-use Rattle.day.specs.Planning.{first_requests, requests_of, all_expected}
+use Rattle.day.specs.Planning.{requests_of, all_expected}
 use Rattle.day.specs.Replies.{replies_of}
-use Rattle.day.specs.Running.{new_drive, Shows, RunsOn}
+use Rattle.day.specs.Running.{KeptNew, Shows, RunsOn}
 use Rattle.day.proofs.Looks.{tells_tally}
 use Rattle.day.proofs.Everything.{sources, everything}
 
 pub runs_on :
     (b : BookName) (g : Gathered) (cs : List AskedAt) (day : Day) (xs : List Expected) (r : Result Outcome AllocError)
-    → KeptAs (meaning_of b) new_drive (first_requests g) (requests_of g cs) day → xs ≡ all_expected g cs
-    → IfOk r (λ o. vec_items o.replies ≡ replies_of xs (vec_items day.firsts ++ vec_items day.answers))
-    → IfOk r (λ o. IsSomeAnd o.audit (Shows day.stage (vec_items day.audit)))
+    → KeptNew (meaning_of b) g (requests_of g cs) day → xs ≡ all_expected g cs
+    → IfOk r (λ o. vec_items o.replies ≡ replies_of xs (vec_items day.firsts ++ vec_items day.told))
+    → IfOk r (λ o. IsSomeAnd o.audit (Shows day.stage (vec_items day.looks)))
     → IfOk r (λ o. RunsOn b g cs (vec_items o.replies) o.audit)
 runs_on b g cs day xs (Err e) k x s a = tt
-runs_on b g cs day xs (Ok o) (end, at, k) x s a =
-    let told : vec_items o.replies ≡ replies_of (all_expected g cs) (vec_items day.firsts ++ vec_items day.answers) =
-    s ∙ ap (λ z. replies_of z (vec_items day.firsts ++ vec_items day.answers)) x in
+runs_on b g cs day xs (Ok o) (last, (end, at, is, k)) x s a =
+    let all : vec_items o.replies ≡ replies_of (all_expected g cs) (vec_items day.firsts ++ vec_items day.told) =
+    s ∙ ap (λ z. replies_of z (vec_items day.firsts ++ vec_items day.told)) x in
     record {
       firsts = vec_items day.firsts;
-      answers = vec_items day.answers;
-      looks = vec_items day.audit;
+      told = vec_items day.told;
+      looks = vec_items day.looks;
       end = end;
       day = k;
-      replied = told;
-      everything = ap sources told ∙ everything g (meaning_of b) new_drive cs _ _ _ end k;
+      replied = all;
+      everything = ap sources all ∙ everything g (meaning_of b) _ cs _ _ _ end k;
       tells_tally = tells_tally (meaning_of b) _ _ _ _ _ _ end k;
-      audited = subst (λ (z : Stage). IsSomeAnd o.audit (Shows z (vec_items day.audit))) (sym at) a;
+      audited = subst (λ (z : Stage). IsSomeAnd o.audit (Shows z (vec_items day.looks))) (sym at) a;
     }

@@ -1,46 +1,93 @@
--- A day kept on trial drives: first calls on a drive that never loses power, then the day's calls on a fresh drive on the same
--- bytes that loses power by its cut numbers, and last a look at every record.
-use Rattle.std.specs.Prelude.{◌≡◌, ℕ, false, List, map, vec_items}
-use Rattle.std.specs.List.{range_with_len}
+-- A day kept on trial drives, in three parts: a rig is formatted on a drive that never loses power; then the day's requests are done
+-- on a fresh drive over what that left, which loses power by the script's cut numbers; and last every record is looked at.
+use Rattle.std.specs.Prelude.{◌≡◌, ℕ, false, List, [], ◌++◌, map, vec_items, Result, MatchResult}
+use Rattle.std.specs.List.{concat, range_with_len}
+use Rattle.std.specs.declared.alloc.AllocError.{AllocError}
 use Rattle.books.specs.Meaning.{Meaning}
-use Rattle.trial.specs.Bytes.{disk_of}
+use Rattle.trial.specs.Bytes.{blocks_of, behind_blocks, disk_with}
+use Rattle.calls.specs.Plain.{LooksAtRecord}
+use Rattle.script.specs.Reading.{Gathered}
 use Rattle.monitor.specs.declared.stage.Stage.TheVariants.{Shut}
 use Rattle.monitor.specs.Machine.{Machine, machine}
-use Rattle.journals.specs.State.{TakenOver}
-use Rattle.histories.specs.Events.{Event, History}
+use Rattle.journals.specs.State.{blocks, TakenOver}
+use Rattle.histories.specs.Events.{Event, History, begun, again, Run, onto}
 use Rattle.histories.specs.Law.{Law}
-use Rattle.desk.specs.declared.answer.Answer.{Answer}
-use Rattle.desk.specs.declared.call.Call.{Call}
-use Rattle.desk.specs.Serving.{Request, LooksAtRecord, Served, request_of}
+use Rattle.calls.specs.declared.Plain.TheVariants as plain
+use Rattle.desk.specs.declared.request.Request.{Request}
+use Rattle.desk.specs.declared.request.Request.TheVariants as request
+use Rattle.desk.specs.declared.told.Told.{Told}
+use Rattle.desk.specs.Serving.{Requested, Plainly, Served}
 use Rattle.day.specs.declared.keeping.Day.{Day}
+use Rattle.day.specs.declared.keeping.Left.{Left}
+use Rattle.day.specs.Planning.{first_requests}
 
--- a shut monitor over a trial drive on some bytes
-abbrev pub shut_over : List ℕ → Machine
-shut_over bytes = machine Shut (disk_of false bytes)
+-- a shut monitor over a fresh trial drive of these blocks
+abbrev pub shut_over : List (List ℕ) → Machine
+shut_over bs = machine Shut (disk_with false bs)
 
--- for so many records a drive of 64 blocks has room
-abbrev pub every_record : List Request
-every_record = map LooksAtRecord (range_with_len 1 30)
+-- the blocks of a monitor's drive
+abbrev pub blocks_on : Machine → List (List ℕ)
+blocks_on s = blocks s.disk
 
--- the three sessions, each on what the former left; and the history of them all, of which the law holds
-pub record Kept (m : Meaning) (bytes : List ℕ) (first calls : List Request) (firsts answers audit : List Answer) (end : Machine) : Type 0 where
+-- a look at a record, and at each for which a drive of 64 blocks has room
+abbrev pub look : ℕ → Request
+look k = request.Plain (plain.Record k)
+
+abbrev pub every_record : List Requested
+every_record = map (λ k. Plainly (LooksAtRecord k)) (range_with_len 1 30)
+
+-- the history of three parts, one after another: the drive of the second takes the first one's place
+abbrev pub day_history :
+    {m : Meaning} {bs : List (List ℕ)} {started closed end : Machine} {es fs gs : List Event} →
+    Run m (shut_over bs) es started → TakenOver started.disk (disk_with false (blocks_on started)) →
+    Run m (shut_over (blocks_on started)) fs closed → Run m closed gs end →
+    History m (gs ++ (fs ++ (es ++ []))) end
+day_history first over second third = onto (onto (again (onto begun first) over) second) third
+
+-- the three parts, from a drive of these blocks on, each on what the one before it left. What happened is the events of the three, one after
+-- another, the latest first; and the law holds of their history at every moment
+pub record Kept (m : Meaning) (bs : List (List ℕ)) (g : Gathered) (requests : List Requested) (firsts told looks : List Told) (end : Machine) : Type 0 where
   pub started : Machine
-  pub left : List ℕ
   pub closed : Machine
-  pub starts : Served m (shut_over bytes) first firsts started
-  pub taken_over : TakenOver started.disk (disk_of false left)
-  pub day : Served m (shut_over left) calls answers closed
-  pub looks : Served m closed every_record audit end
-  pub happened : List Event
-  pub history : History m happened end
-  pub law : Law m happened end
+  pub starts : Served m (shut_over bs) (first_requests g) firsts started
+  pub takes_over : TakenOver started.disk (disk_with false (blocks_on started))
+  pub day : Served m (shut_over (blocks_on started)) requests told closed
+  pub looked : Served m closed every_record looks end
+  pub law : Law m (day_history starts.law.run takes_over day.law.run looked.law.run)
 
--- a day was kept with these answers, and the monitor came to this stage
-abbrev pub KeptAs : Meaning → List ℕ → List Request → List Request → Day → Type 0
-KeptAs m bytes first calls day =
-    (end : Machine) × (end.stage ≡ day.stage)
-    × Kept m bytes first calls (vec_items day.firsts) (vec_items day.answers) (vec_items day.audit) end
+-- what happened on a day
+abbrev pub happened_on :
+    {m : Meaning} {bs : List (List ℕ)} {g : Gathered} {requests : List Requested} {firsts told looks : List Told} {end : Machine} →
+    Kept m bs g requests firsts told looks end → List Event
+happened_on k = k.looked.desk.happened ++ (k.day.desk.happened ++ (k.starts.desk.happened ++ []))
 
--- the same, by the calls that were made
-abbrev pub KeptWith : Meaning → List ℕ → List Call → List Call → Day → Type 0
-KeptWith m bytes first calls day = KeptAs m bytes (map request_of first) (map request_of calls) day
+-- a day that was broken off for want of memory, by the blocks of its last drive
+pub data BrokenOff (m : Meaning) (bs : List (List ℕ)) (g : Gathered) (requests : List Requested) : List (List ℕ) → Type 0 where
+  before_format : BrokenOff m bs g requests bs
+  before_requests :
+      {firsts : List Told} {started : Machine}
+      → Served m (shut_over bs) (first_requests g) firsts started
+      → BrokenOff m bs g requests (blocks_on started)
+  before_looks :
+      {firsts told : List Told} {started closed : Machine}
+      → Served m (shut_over bs) (first_requests g) firsts started
+      → Served m (shut_over (blocks_on started)) requests told closed
+      → BrokenOff m bs g requests (blocks_on closed)
+
+-- a day that was kept with this told, and came to this stage, by the blocks of its last drive
+abbrev pub KeptAs : Meaning → List (List ℕ) → Gathered → List Requested → Day → List (List ℕ) → Type 0
+KeptAs m bs g requests d last =
+    (end : Machine) × (end.stage ≡ d.stage) × (blocks_on end ≡ last)
+    × Kept m bs g requests (vec_items d.firsts) (vec_items d.told) (vec_items d.looks) end
+
+-- kept, or broken off for want of memory
+abbrev pub KeptOr : Meaning → List (List ℕ) → Gathered → List Requested → Result Day AllocError → List (List ℕ) → Type 0
+KeptOr m bs g requests r last =
+    MatchResult r (λ d. KeptAs m bs g requests d last) (λ _. BrokenOff m bs g requests last)
+
+-- either way the bytes that are left are the blocks of the last drive, and those behind the last whole block are untouched
+pub record KeepsDay (m : Meaning) (bytes : List ℕ) (g : Gathered) (requests : List Requested) (r : Result Day AllocError) (left : Left) : Type 0 where
+  pub last : List (List ℕ)
+  pub kept : KeptOr m (blocks_of bytes) g requests r last
+  pub blocks_left : left.blocks.now ≡ concat last
+  pub behind_left : left.behind.now ≡ behind_blocks bytes

@@ -1,4 +1,5 @@
 pub mod Keeping
+pub mod Parts
 pub mod Planning
 pub mod Replies
 pub mod Running

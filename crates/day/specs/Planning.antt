@@ -5,11 +5,12 @@ use Rattle.refusals.specs.declared.refusal.Refusal.{Refusal}
 use Rattle.notes.specs.declared.numbers.Numbers.{Numbers}
 use Rattle.notes.specs.Notes.{noted}
 use Rattle.script.specs.declared.line.TypedNote.{TypedNote}
-use Rattle.script.specs.Said.{Asked, noting, formatting, attaching, entering, countersigning, withdrawing, certifying, striking, item_shown, record_shown}
+use Rattle.calls.specs.Plain.{Formats, Attaches}
+use Rattle.script.specs.Said.{Asked, noting, formatting, entering, countersigning, withdrawing, plainly}
 use Rattle.script.specs.Grammar.{meaning_of}
 use Rattle.script.specs.Reading.{Gathered, AskedAt}
-use Rattle.desk.specs.declared.call.Call.{Call}
-use Rattle.desk.specs.Serving.{Request, Formats, Attaches, Enters, Countersigns, Withdraws, Certifies, Strikes, LooksAtItem, LooksAtRecord, request_of}
+use Rattle.desk.specs.declared.request.Request.{Request}
+use Rattle.desk.specs.Serving.{Requested, Enters, Countersigns, Withdraws, Plainly, requested}
 use Rattle.day.specs.declared.reply.Source.TheVariants.{Format, Attach, Line}
 use Rattle.day.specs.declared.reply.Said.{Said}
 use Rattle.day.specs.declared.reply.Said.TheVariants.{Note, Refused}
@@ -25,48 +26,44 @@ note_said (Ok n) = Note n
 note_said (Err e) = Refused e
 
 -- a note that was made is entered; where it was refused, that is said, and nothing is asked
-abbrev pub entering_of : List ℕ → ℕ → List ℕ → Result Numbers Refusal → Result Request Said
+abbrev pub entering_of : List ℕ → ℕ → List ℕ → Result Numbers Refusal → Result Requested Said
 entering_of name user word (Ok n) = Ok (Enters name user word n)
 entering_of name user word (Err e) = Err (Refused e)
 
 -- what a command comes to: what is asked of the desk, or else what is said at once
-abbrev pub planned : Gathered → Asked → Result Request Said
+abbrev pub planned : Gathered → Asked → Result Requested Said
 planned g (noting t) = Err (note_said (made t))
-planned g (formatting house) = Ok (Formats house g.roll g.opening)
-planned g attaching = Ok Attaches
+planned g (formatting house) = Ok (Plainly (Formats house g.roll g.opening))
 planned g (entering name user word t) = entering_of name user word (made t)
 planned g (countersigning name user word) = Ok (Countersigns name user word)
 planned g (withdrawing name) = Ok (Withdraws name)
-planned g (certifying word row) = Ok (Certifies word row)
-planned g (striking word row) = Ok (Strikes word row)
-planned g (item_shown i) = Ok (LooksAtItem i)
-planned g (record_shown k) = Ok (LooksAtRecord k)
+planned g (plainly c) = Ok (Plainly c)
 
--- a plan by what its call asks for
-abbrev pub plan_of : Result Call Said → Result Request Said
-plan_of (Ok call) = Ok (request_of call)
+-- a plan by what its request asks for
+abbrev pub plan_of : Result Request Said → Result Requested Said
+plan_of (Ok request) = Ok (requested request)
 plan_of (Err said) = Err said
 
 -- what a plan asks of the desk: one thing or nothing
-abbrev pub asks : Result Request Said → List Request
+abbrev pub asks : Result Requested Said → List Requested
 asks (Ok q) = q ∷ []
 asks (Err said) = []
 
 -- what it says at once
-abbrev pub said_at_once : Result Request Said → Option Said
+abbrev pub said_at_once : Result Requested Said → Option Said
 said_at_once (Ok q) = None
 said_at_once (Err said) = Some said
 
--- the first session, on a new drive: it is formatted with what the script sets up
-abbrev pub first_requests : Gathered → List Request
-first_requests g = Formats g.house g.roll g.opening ∷ []
+-- the first part of a day, on a new drive: it is formatted with what the script sets up
+abbrev pub first_requests : Gathered → List Requested
+first_requests g = Plainly (Formats g.house g.roll g.opening) ∷ []
 
--- the day's session: the drive is attached, and then the commands ask in their order
-abbrev pub requests_of : Gathered → List AskedAt → List Request
-requests_of g cs = Attaches ∷ flat_map (λ c. asks (planned g c.asked)) cs
+-- the day's requests: the drive is attached, and then the commands ask in their order
+abbrev pub requests_of : Gathered → List AskedAt → List Requested
+requests_of g cs = Plainly Attaches ∷ flat_map (λ c. asks (planned g c.asked)) cs
 
 -- the reply that a line is to have, by its plan; and that a command's line is to have
-abbrev pub expected_by : ℕ → Result Request Said → Expected
+abbrev pub expected_by : ℕ → Result Requested Said → Expected
 expected_by line p = record { source = Line line; said = said_at_once p }
 
 abbrev pub expected_of : Gathered → AskedAt → Expected

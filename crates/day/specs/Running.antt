@@ -2,6 +2,7 @@
 use Rattle.std.specs.Prelude.{◌≡◌, ℕ, List, ◌∷◌, ◌++◌, map, replicate, take, Some, None, Ok, Option, vec_items, IfSome, IsSomeAnd}
 use Rattle.std.specs.List.{filter_map}
 use Rattle.books.specs.Meaning.{Meaning}
+use Rattle.trial.specs.Bytes.{blocks_of}
 use Rattle.records.specs.declared.record.Record.{Record}
 use Rattle.script.specs.declared.line.BookName.{BookName}
 use Rattle.script.specs.Grammar.{meaning_of}
@@ -11,36 +12,42 @@ use Rattle.monitor.specs.declared.stage.Stage.TheVariants as stage
 use Rattle.monitor.specs.Machine.{Machine}
 use Rattle.histories.specs.Events.{Event}
 use Rattle.histories.specs.Tally.{tally}
-use Rattle.desk.specs.declared.answer.Answer.{Answer}
-use Rattle.desk.specs.declared.answer.Answer.TheVariants as answer
+use Rattle.desk.specs.declared.told.Told.{Told}
+use Rattle.desk.specs.declared.told.Told.TheVariants as told
 use Rattle.day.specs.declared.audit.Audit.{Audit}
 use Rattle.day.specs.declared.audit.Audit.TheVariants as audit
 use Rattle.day.specs.declared.reply.Source.{Source}
 use Rattle.day.specs.declared.reply.Source.TheVariants.{Format, Attach, Line}
 use Rattle.day.specs.declared.reply.Reply.{Reply}
 use Rattle.day.specs.declared.running.Outcome.{Outcome}
-use Rattle.day.specs.Keeping.{Kept}
-use Rattle.day.specs.Planning.{first_requests, requests_of, all_expected}
+use Rattle.day.specs.declared.keeping.Day.{Day}
+use Rattle.desk.specs.Serving.{Requested}
+use Rattle.day.specs.Keeping.{Kept, KeptAs, happened_on}
+use Rattle.day.specs.Planning.{requests_of, all_expected}
 use Rattle.day.specs.Replies.{replies_of, last_reply}
 
 -- a new drive: 64 blocks of zeros
 abbrev pub new_drive : List ℕ
 new_drive = replicate 4096 0
 
+-- a day that was kept on a new drive
+abbrev pub KeptNew : Meaning → Gathered → List Requested → Day → Type 0
+KeptNew m g requests d = (last : List (List ℕ)) × KeptAs m (blocks_of new_drive) g requests d last
+
 -- the records that were seen by looking at each number
-abbrev pub record_seen : Answer → Option Record
-record_seen (answer.Record (Ok x)) = Some x
+abbrev pub record_seen : Told → Option Record
+record_seen (told.Record (Ok x)) = Some x
 record_seen _ = None
 
-abbrev pub records_seen : List Answer → List Record
+abbrev pub records_seen : List Told → List Record
 records_seen looks = filter_map record_seen looks
 
 -- where there is a tally of what the books should hold, the records that were seen are its records, up to the thirtieth
-abbrev pub TellsTally : Meaning → List Event → List Answer → Type 0
+abbrev pub TellsTally : Meaning → List Event → List Told → Type 0
 TellsTally m happened looks = IfSome (tally m happened) (λ t. records_seen looks ≡ take 30 t.books.records)
 
 -- what is shown of the audit at a stage: its records exactly if the monitor is open
-abbrev pub Shows : Stage → List Answer → Audit → Type 0
+abbrev pub Shows : Stage → List Told → Audit → Type 0
 Shows stage.Shut looks a = a ≡ audit.Shut
 Shows stage.Dark looks a = a ≡ audit.Dark
 Shows stage.Open looks (audit.Records v) = vec_items v ≡ records_seen looks
@@ -53,14 +60,14 @@ all_sources commands = Format ∷ (Attach ∷ map (λ c. Line c.line) commands)
 
 -- a script that chose a book, run on a new drive of that book
 pub record RunsOn (b : BookName) (g : Gathered) (commands : List AskedAt) (replies : List Reply) (shown : Option Audit) : Type 0 where
-  pub firsts : List Answer
-  pub answers : List Answer
-  pub looks : List Answer
+  pub firsts : List Told
+  pub told : List Told
+  pub looks : List Told
   pub end : Machine
-  pub day : Kept (meaning_of b) new_drive (first_requests g) (requests_of g commands) firsts answers looks end
-  pub replied : replies ≡ replies_of (all_expected g commands) (firsts ++ answers)
+  pub day : Kept (meaning_of b) (blocks_of new_drive) g (requests_of g commands) firsts told looks end
+  pub replied : replies ≡ replies_of (all_expected g commands) (firsts ++ told)
   pub everything : map (λ (r : Reply). r.source) replies ≡ all_sources commands
-  pub tells_tally : end.stage ≡ stage.Open → TellsTally (meaning_of b) day.happened looks
+  pub tells_tally : end.stage ≡ stage.Open → TellsTally (meaning_of b) (happened_on day) looks
   pub audited : IsSomeAnd shown (Shows end.stage looks)
 
 -- what a script comes to, and last its bad line is refused; where it chose no book, there is no day

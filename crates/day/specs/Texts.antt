@@ -1,11 +1,11 @@
 -- How replies are printed, a line for each.
-use Rattle.std.specs.Prelude.{ℕ, List, ◌++◌, Some, None, Ok, Err, codes, decimal, Option}
-use Rattle.std.specs.Option.{option_map}
+use Rattle.std.specs.Prelude.{ℕ, List, ◌++◌, Ok, Err, codes, decimal}
 use Rattle.refusals.specs.Texts as texts
 use Rattle.notes.specs.declared.numbers.Numbers.{Numbers}
 use Rattle.monitor.specs.declared.entered.Entered.{Entered}
-use Rattle.desk.specs.declared.answer.Answer.{Answer}
-use Rattle.desk.specs.declared.answer.Answer.TheVariants as answer
+use Rattle.records.specs.Texts.{record_text}
+use Rattle.desk.specs.declared.told.Told.{Told}
+use Rattle.desk.specs.declared.told.Told.TheVariants as told
 use Rattle.day.specs.declared.reply.Source.{Source}
 use Rattle.day.specs.declared.reply.Source.TheVariants as source
 use Rattle.day.specs.declared.reply.Said.{Said}
@@ -21,23 +21,24 @@ note_text n =
 abbrev pub slip_text : Entered → List ℕ
 slip_text s = note_text s.numbers ++ (codes ", entered by " ++ (decimal s.enterer ++ (codes " at house " ++ decimal s.house)))
 
--- an answer of the desk. How a record is printed is left open
-abbrev pub answer_text : Answer → Option (List ℕ)
-answer_text (answer.Count (Ok n)) = Some (codes "records: " ++ decimal n)
-answer_text (answer.Count (Err e)) = Some (texts.line e)
-answer_text (answer.Slip (Ok s)) = Some (codes "slip: " ++ slip_text s)
-answer_text (answer.Slip (Err e)) = Some (texts.line e)
-answer_text (answer.Code (Ok n)) = Some (codes "code " ++ decimal n)
-answer_text (answer.Code (Err e)) = Some (texts.line e)
-answer_text (answer.Record (Ok x)) = None
-answer_text (answer.Record (Err e)) = Some (texts.line e)
-answer_text (answer.Withdrawn s) = Some (codes "withdrawn: " ++ slip_text s)
-answer_text answer.NoSuchSlip = Some (codes "no such slip")
+-- what the desk tells
+abbrev pub told_text : Told → List ℕ
+told_text (told.Count (Ok n)) = codes "records: " ++ decimal n
+told_text (told.Count (Err e)) = texts.line e
+told_text (told.Slip (Ok s)) = codes "slip: " ++ slip_text s
+told_text (told.Slip (Err e)) = texts.line e
+told_text (told.Code (Ok n)) = codes "code " ++ decimal n
+told_text (told.Code (Err e)) = texts.line e
+told_text (told.Record (Ok x)) = codes "record: " ++ record_text x
+told_text (told.Record (Err e)) = texts.line e
+told_text (told.Withdrawn s) = codes "withdrawn: " ++ slip_text s
+told_text told.NoSuchSlip = codes "no slip of this name waits"
 
-abbrev pub said_text : Said → Option (List ℕ)
-said_text (said.Note n) = Some (codes "note made: " ++ note_text n)
-said_text (said.Refused e) = Some (texts.line e)
-said_text (said.Answered a) = answer_text a
+abbrev pub said_text : Said → List ℕ
+said_text (said.Note n) = codes "note made: " ++ note_text n
+said_text (said.Refused e) = texts.line e
+said_text (said.NoSlip e) = texts.heading e ++ (codes ": " ++ told_text told.NoSuchSlip)
+said_text (said.Answered t) = told_text t
 
 abbrev pub source_text : Source → List ℕ
 source_text source.Format = codes "format"
@@ -45,5 +46,5 @@ source_text source.Attach = codes "attach"
 source_text (source.Line k) = codes "line " ++ decimal k
 
 -- the whole line: "line 29: records: 5"
-abbrev pub reply_text : Reply → Option (List ℕ)
-reply_text r = option_map (λ t. source_text r.source ++ (codes ": " ++ t)) (said_text r.said)
+abbrev pub reply_text : Reply → List ℕ
+reply_text r = source_text r.source ++ (codes ": " ++ said_text r.said)

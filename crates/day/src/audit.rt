@@ -1,7 +1,7 @@
 ghost use Rattle.std.specs.Prelude.{◌≡◌, IfOk};
 ghost use Rattle.day.specs.Running.{Shows, record_seen, records_seen};
 
-use desk::Answer;
+use desk::Told;
 use monitor::Stage;
 use records::Record;
 use std::alloc::{AllocError, Global};
@@ -19,8 +19,8 @@ pub enum Audit {
 }
 
 impl Audit {
-    /// The audit of a monitor that came to this stage, by its answers to a look at each record.
-    pub(crate) fn of(heap: Global, stage: Stage, looks: &[Answer]) -> Result<Audit, AllocError>
+    /// The audit of a monitor that came to this stage, by what was told of a look at each record.
+    pub(crate) fn of(heap: Global, stage: Stage, looks: &[Told]) -> Result<Audit, AllocError>
         ensures shows { IfOk result (Shows stage looks.now) }
     {
         match stage {
@@ -31,18 +31,18 @@ impl Audit {
     }
 }
 
-/// The record of an answer, if one was seen.
-fn record_in(look: &Answer) -> Option<Record>
+/// The record that was told, if one was seen.
+fn record_in(look: &Told) -> Option<Record>
     ensures value { result ≡ record_seen look.now }
 {
     match *look {
-        Answer::Record(Ok(entry)) => Some(entry),
+        Told::Record(Ok(entry)) => Some(entry),
         _ => None,
     }
 }
 
-/// The records among some answers.
-fn records_in(heap: Global, looks: &[Answer]) -> Result<Vec<Record>, AllocError>
+/// The records among what was told.
+fn records_in(heap: Global, looks: &[Told]) -> Result<Vec<Record>, AllocError>
     ensures value { IfOk result (λ v. v.items ≡ records_seen looks.now) }
 {
     let mut records = Vec::new(heap);

@@ -1,13 +1,15 @@
-ghost use Rattle.std.specs.Prelude.{◌≡◌, IfOk};
+ghost use Rattle.std.specs.Prelude.{map};
 ghost use Rattle.script.specs.Grammar.{meaning_of};
+ghost use Rattle.script.specs.Reading.{gathered_by};
 ghost use Rattle.ledger.specs.Ledger.{ledger};
 ghost use Rattle.stock.specs.Stock.{stock};
-ghost use Rattle.day.specs.Keeping.{KeptWith};
+ghost use Rattle.desk.specs.Serving.{requested};
+ghost use Rattle.day.specs.Keeping.{KeepsDay};
 
-use crate::keeping::{Day, keep_day};
-use desk::Call;
+use crate::keeping::{Day, Left, keep_day};
+use desk::Request;
 use ledger::Ledger;
-use script::BookName;
+use script::{BookName, Setup};
 use std::alloc::{AllocError, Global};
 use stock::Stock;
 
@@ -15,28 +17,26 @@ use stock::Stock;
 pub fn keep_ledger_day<'a>(
     heap: Global,
     bytes: &'a mut [u8],
-    cuts: &'a [u16],
-    first: Vec<Call<'a>>,
-    calls: Vec<Call<'a>>,
-) -> Result<Day, AllocError>
-    ensures keeps { IfOk result
-        (KeptWith ledger bytes.old first.entry.items calls.entry.items) }
+    setup: &'a Setup,
+    requests: Vec<Request<'a>>,
+) -> (Left<'a>, Result<Day, AllocError>)
+    ensures keeps { KeepsDay ledger bytes.old (gathered_by setup.now)
+        (map requested requests.entry.items) result.1 result.0 }
 {
-    keep_day(heap, Ledger, bytes, cuts, first, calls)
+    keep_day(heap, Ledger, bytes, setup, requests)
 }
 
 /// A day of the stock book.
 pub fn keep_stock_day<'a>(
     heap: Global,
     bytes: &'a mut [u8],
-    cuts: &'a [u16],
-    first: Vec<Call<'a>>,
-    calls: Vec<Call<'a>>,
-) -> Result<Day, AllocError>
-    ensures keeps { IfOk result
-        (KeptWith stock bytes.old first.entry.items calls.entry.items) }
+    setup: &'a Setup,
+    requests: Vec<Request<'a>>,
+) -> (Left<'a>, Result<Day, AllocError>)
+    ensures keeps { KeepsDay stock bytes.old (gathered_by setup.now)
+        (map requested requests.entry.items) result.1 result.0 }
 {
-    keep_day(heap, Stock, bytes, cuts, first, calls)
+    keep_day(heap, Stock, bytes, setup, requests)
 }
 
 /// A day of the book of this name.
@@ -44,15 +44,14 @@ pub(crate) fn keep_day_of<'a>(
     heap: Global,
     book: BookName,
     bytes: &'a mut [u8],
-    cuts: &'a [u16],
-    first: Vec<Call<'a>>,
-    calls: Vec<Call<'a>>,
-) -> Result<Day, AllocError>
-    ensures keeps { IfOk result
-        (KeptWith (meaning_of book) bytes.old first.entry.items calls.entry.items) }
+    setup: &'a Setup,
+    requests: Vec<Request<'a>>,
+) -> (Left<'a>, Result<Day, AllocError>)
+    ensures keeps { KeepsDay (meaning_of book) bytes.old (gathered_by setup.now)
+        (map requested requests.entry.items) result.1 result.0 }
 {
     match book {
-        BookName::Ledger => keep_ledger_day(heap, bytes, cuts, first, calls),
-        BookName::Stock => keep_stock_day(heap, bytes, cuts, first, calls),
+        BookName::Ledger => keep_ledger_day(heap, bytes, setup, requests),
+        BookName::Stock => keep_stock_day(heap, bytes, setup, requests),
     }
 }

@@ -1,53 +1,153 @@
-ghost use Rattle.std.specs.Prelude.{◌≡◌, map, IfOk};
+ghost use Rattle.std.specs.Prelude.{◌≡◌, map, IfOk, OnErr, MatchResult};
+ghost use Rattle.script.specs.Reading.{gathered_by};
+ghost use Rattle.trial.specs.Bytes.{blocks_of, in_blocks};
+ghost use Rattle.trial.specs.State.{disk};
+ghost use Rattle.monitor.specs.Machine.{machine};
+ghost use Rattle.monitor.specs.declared.stage.Stage.TheVariants.{Shut};
+ghost use Rattle.desk.specs.Serving.{requested};
 ghost use Rattle.std.specs.List.{range_with_len};
-ghost use Rattle.desk.specs.declared.call.Call.TheVariants.{Record as CallRecord};
-ghost use Rattle.day.specs.Keeping.{KeptWith};
+ghost use Rattle.day.specs.Keeping.{look, KeepsDay};
+ghost use Rattle.day.specs.Parts.{Begun, GoesOn, WentOn, KeptOn};
 
+use crate::planning::first_requests;
+use crate::rig::{CutDrive, SteadyDrive};
 use books::Book;
-use desk::{Answer, Call, serve};
+use calls::Plain;
+use desk::{Request, Told, serve};
+use drives::Drive;
 use monitor::{Monitor, Stage};
+use script::Setup;
 use std::alloc::{AllocError, Global};
-use trial::TrialDrive;
 
-/// What was answered on a day: to the first calls, to the day's calls, and to a look at every record; and the stage at its end.
+/// What was told on a day: of the format, of the day's requests, and of a look at every record; and the stage at its end.
 #[derive(Drop)]
 pub struct Day {
-    pub firsts: Vec<Answer>,
-    pub answers: Vec<Answer>,
-    pub audit: Vec<Answer>,
+    pub firsts: Vec<Told>,
+    pub told: Vec<Told>,
+    pub looks: Vec<Told>,
     pub stage: Stage,
 }
 
-/// A look at each record for which a drive of 64 blocks has room.
-fn look_at_every_record<'a>(heap: Global) -> Result<Vec<Call<'a>>, AllocError>
-    ensures asks { IfOk result (λ v. v.items ≡ map CallRecord (range_with_len 1 30)) }
-{
-    (1..31).map(|number| Call::Record { number }).collect(heap)
+/// What a day leaves of the bytes that it was kept on. It hands them back: no caller sees through the drive that held them.
+#[derive(Clone, Copy)]
+pub struct Left<'a> {
+    /// The blocks of the last drive, one after another.
+    pub blocks: &'a [u8],
+    /// The bytes behind the last whole block, untouched.
+    pub behind: &'a [u8],
 }
 
-/// Makes the first calls on a trial drive that never loses power, then the day's calls on a fresh drive on the same bytes, which
-/// takes the cut numbers, and last looks at every record. It fails only for want of memory.
+/// A look at each record for which a drive of 64 blocks has room.
+fn look_at_every_record<'a>(heap: Global) -> Result<Vec<Request<'a>>, AllocError>
+    ensures asks { IfOk result (λ v. v.items ≡ map look (range_with_len 1 30)) }
+{
+    (1..31)
+        .map(|number| Request::Plain(Plain::Record { number }))
+        .collect(heap)
+}
+
+/// The first part of a day: a rig is formatted on a drive that never loses power. It fails only for want of memory.
+fn begin<'a, B: Book>(
+    heap: Global,
+    book: B,
+    bytes: &'a mut [u8],
+    setup: &'a Setup,
+) -> (&'a mut [u8], B, Result<Vec<Told>, AllocError>)
+    ensures begun { IfOk result.2 (λ firsts. Begun B.meaning bytes.old (gathered_by setup.now)
+        firsts.items result.0.now) }
+    ensures unbegun { OnErr result.2 (blocks_of result.0.now ≡ blocks_of bytes.old) }
+{
+    let first = match first_requests(heap, setup) {
+        Ok(first) => first,
+        Err(error) => return (bytes, book, Err(error)),
+    };
+    let mut monitor = Monitor::over(SteadyDrive::over(bytes).drive, book);
+    let firsts = serve(&mut monitor, heap, first);
+    let (drive, book) = monitor.into_parts();
+    (drive.into_bytes(), book, firsts)
+}
+
+/// The day's requests, and last a look at every record, on a monitor. It fails only for want of memory.
+fn serve_day<'a, D: Drive, B: Book>(
+    monitor: &mut Monitor<D, B>,
+    heap: Global,
+    requests: Vec<Request<'a>>,
+    firsts: Vec<Told>,
+) -> Result<Day, AllocError>
+    ensures goes_on { GoesOn B.meaning monitor.old (map requested requests.entry.items)
+        firsts.items result monitor.new }
+{
+    let told = serve(monitor, heap, requests)?;
+    let looks = serve(monitor, heap, look_at_every_record(heap)?)?;
+    Ok(Day {
+        firsts,
+        told,
+        looks,
+        stage: monitor.stage(),
+    })
+}
+
+/// The second and third part of a day, on the drive of the day. It fails only for want of memory.
+fn go_on<'a, B: Book + Drop>(
+    heap: Global,
+    book: B,
+    drive: CutDrive<'a>,
+    requests: Vec<Request<'a>>,
+    firsts: Vec<Told>,
+) -> (&'a mut [u8], Result<Day, AllocError>)
+    ensures went_on { WentOn B.meaning (machine Shut (disk drive.entry.drive))
+        (map requested requests.entry.items) firsts.items result.1 result.0.now }
+{
+    let mut monitor = Monitor::over(drive.drive, book);
+    let day = serve_day(&mut monitor, heap, requests, firsts);
+    let (drive, _) = monitor.into_parts();
+    (drive.into_bytes(), day)
+}
+
+/// All parts of a day, one after another, each on what the one before it left.
+fn keep_on<'a, B: Book + Drop>(
+    heap: Global,
+    book: B,
+    bytes: &'a mut [u8],
+    setup: &'a Setup,
+    requests: Vec<Request<'a>>,
+) -> (&'a mut [u8], Result<Day, AllocError>)
+    ensures kept_on { KeptOn B.meaning bytes.old (gathered_by setup.now)
+        (map requested requests.entry.items) result.1 result.0.now }
+{
+    let (bytes, book, firsts) = begin(heap, book, bytes, setup);
+    match firsts {
+        Ok(firsts) => go_on(heap, book, CutDrive::over(bytes, setup), requests, firsts),
+        Err(error) => (bytes, Err(error)),
+    }
+}
+
+/// The bytes that stand in blocks.
+fn whole_blocks(bytes: &[u8]) -> &[u8]
+    ensures value { result.now ≡ in_blocks bytes.now }
+{
+    &bytes[..bytes.len() / 64 * 64]
+}
+
+/// Formats a rig on a trial drive over some bytes that never loses power, then does what is asked on a fresh drive over what it
+/// left, which takes the script's cut numbers, and last looks at every record. It fails only for want of memory, and hands the
+/// bytes back either way.
 pub fn keep_day<'a, B: Book + Drop>(
     heap: Global,
     book: B,
     bytes: &'a mut [u8],
-    cuts: &'a [u16],
-    first: Vec<Call<'a>>,
-    calls: Vec<Call<'a>>,
-) -> Result<Day, AllocError>
-    ensures keeps { IfOk result
-        (KeptWith B.meaning bytes.old first.entry.items calls.entry.items) }
+    setup: &'a Setup,
+    requests: Vec<Request<'a>>,
+) -> (Left<'a>, Result<Day, AllocError>)
+    ensures keeps { KeepsDay B.meaning bytes.old (gathered_by setup.now)
+        (map requested requests.entry.items) result.1 result.0 }
 {
-    let mut monitor = Monitor::over(TrialDrive::over(bytes, &[]), book);
-    let firsts = serve(&mut monitor, heap, first)?;
-    let (drive, book) = monitor.into_parts();
-    let mut monitor = Monitor::over(TrialDrive::over(drive.into_bytes(), cuts), book);
-    let answers = serve(&mut monitor, heap, calls)?;
-    let audit = serve(&mut monitor, heap, look_at_every_record(heap)?)?;
-    Ok(Day {
-        firsts,
-        answers,
-        audit,
-        stage: monitor.stage(),
-    })
+    let whole = bytes.len() / 64 * 64;
+    let (blocks, behind) = bytes.split_at_mut(whole);
+    let (blocks, day) = keep_on(heap, book, blocks, setup, requests);
+    let left = Left {
+        blocks: whole_blocks(blocks),
+        behind,
+    };
+    (left, day)
 }

@@ -1,16 +1,17 @@
 ghost use Rattle.std.specs.Prelude.{◌≡◌, ◌∷◌, ◌++◌, [], None, map, IfOk, OnOk};
 ghost use Rattle.script.specs.Said.{asked_by};
 ghost use Rattle.script.specs.Reading.{gathered_by, asked_at};
-ghost use Rattle.desk.specs.Serving.{request_of};
+ghost use Rattle.desk.specs.Serving.{requested};
 ghost use Rattle.day.specs.declared.reply.Source.TheVariants.{Line};
-ghost use Rattle.day.specs.Planning.{made, note_said, entering_of, planned as plan_by, plan_of, asks, expected_by, first_requests, requests_of, all_expected};
-ghost use Rattle.day.specs.Replies.{replies_of};
+ghost use Rattle.day.specs.Planning.{made, note_said, entering_of, planned as plan_by, plan_of, asks, expected_by, first_requests as first_asked, requests_of, all_expected};
+ghost use Rattle.day.specs.Replies.{said_of, replies_of};
 
 use crate::reply::{Reply, Said, Source};
-use desk::{Answer, Call};
+use calls::Plain;
+use desk::{Request, Told};
 use ledger::Ledger;
 use notes::{Note, make_note};
-use refusals::Refusal;
+use refusals::{Reason, Refusal};
 use script::{BookName, Command, Numbered, Setup, TypedNote};
 use std::alloc::{AllocError, Global};
 use stock::Stock;
@@ -36,17 +37,17 @@ fn said_of_note(typed: TypedNote) -> Said
     }
 }
 
-/// The call to enter a note, or what is said where there is none.
+/// The request to enter a note, or what is said where there is none.
 fn plan_entering<'a>(
     name: &'a [u8],
     user: u64,
     word: &'a [u8],
     typed: TypedNote,
-) -> Result<Call<'a>, Said>
+) -> Result<Request<'a>, Said>
     ensures value { plan_of result ≡ entering_of name.now user word.now (made typed) }
 {
     match make_typed(typed) {
-        Ok(note) => Ok(Call::Enter {
+        Ok(note) => Ok(Request::Enter {
             name,
             user,
             word,
@@ -56,34 +57,30 @@ fn plan_entering<'a>(
     }
 }
 
-/// The call that a command comes to, or what is said in reply at once.
-pub fn plan_command<'a>(setup: &'a Setup, command: Command<'a>) -> Result<Call<'a>, Said>
+/// The request that a command comes to, or what is said in reply at once.
+pub fn plan_command<'a>(setup: &'a Setup, command: Command<'a>) -> Result<Request<'a>, Said>
     ensures value { plan_of result ≡ plan_by (gathered_by setup.now) (asked_by command.entry) }
 {
     match command {
         Command::Note(typed) => Err(said_of_note(typed)),
-        Command::Format { house } => Ok(Call::Format {
+        Command::Format { house } => Ok(Request::Plain(Plain::Format {
             house,
             roll: setup.roll.as_slice(),
             opening: setup.opening.as_slice(),
-        }),
-        Command::Attach => Ok(Call::Attach),
+        })),
         Command::Enter {
             slip,
             user,
             word,
             note,
         } => plan_entering(slip, user, word, note),
-        Command::Countersign { slip, user, word } => Ok(Call::Countersign {
+        Command::Countersign { slip, user, word } => Ok(Request::Countersign {
             name: slip,
             user,
             word,
         }),
-        Command::Withdraw { slip } => Ok(Call::Withdraw { name: slip }),
-        Command::Certify { word, row } => Ok(Call::Certify { word, draft: row }),
-        Command::Strike { word, row } => Ok(Call::Strike { word, row }),
-        Command::Item { item } => Ok(Call::Item { item }),
-        Command::Record { number } => Ok(Call::Record { number }),
+        Command::Withdraw { slip } => Ok(Request::Withdraw { name: slip }),
+        Command::Plain(call) => Ok(Request::Plain(call)),
     }
 }
 
@@ -94,25 +91,25 @@ pub struct Expected {
     pub said: Option<Said>,
 }
 
-/// The calls of a day, and for each line of the script whether its reply is one of their answers.
+/// The requests of a day, and for each line of the script whether its reply is what is told of one.
 #[derive(Drop)]
 pub struct Plan<'a> {
-    pub calls: Vec<Call<'a>>,
+    pub requests: Vec<Request<'a>>,
     pub expected: Vec<Expected>,
 }
 
 impl<'a> Plan<'a> {
     /// Adds what a command comes to.
-    fn add(&mut self, line: u64, planned: Result<Call<'a>, Said>) -> Result<(), AllocError>
-        ensures calls { OnOk result (map request_of self.new.calls.items
-            ≡ map request_of self.old.calls.items ++ asks (plan_of planned.entry)) }
+    fn add(&mut self, line: u64, planned: Result<Request<'a>, Said>) -> Result<(), AllocError>
+        ensures requests { OnOk result (map requested self.new.requests.items
+            ≡ map requested self.old.requests.items ++ asks (plan_of planned.entry)) }
         ensures expected { OnOk result (self.new.expected.items
             ≡ self.old.expected.items ++ expected_by line (plan_of planned.entry) ∷ []) }
     {
         let source = Source::Line(line);
         match planned {
-            Ok(call) => {
-                self.calls.push(call)?;
+            Ok(request) => {
+                self.requests.push(request)?;
                 self.expected.push(awaited(source))?;
             }
             Err(said) => self.expected.push(Expected {
@@ -124,17 +121,20 @@ impl<'a> Plan<'a> {
     }
 }
 
-/// The first call on a new rig: it is formatted with what the script sets up.
-pub fn first_calls<'a>(heap: Global, setup: &'a Setup) -> Result<Vec<Call<'a>>, AllocError>
+/// The first request on a new rig: it is formatted with what the script sets up.
+pub(crate) fn first_requests<'a>(
+    heap: Global,
+    setup: &'a Setup,
+) -> Result<Vec<Request<'a>>, AllocError>
     ensures asks { IfOk result (λ v.
-        map request_of v.items ≡ first_requests (gathered_by setup.now)) }
+        map requested v.items ≡ first_asked (gathered_by setup.now)) }
 {
-    let format = Call::Format {
+    let format = Plain::Format {
         house: setup.house,
         roll: setup.roll.as_slice(),
         opening: setup.opening.as_slice(),
     };
-    Ok(vec![in heap; format]?)
+    Ok(vec![in heap; Request::Plain(format)]?)
 }
 
 /// A reply that is one of the desk's answers.
@@ -150,13 +150,13 @@ pub fn plan_day<'a>(
     setup: &'a Setup,
     commands: &[Numbered<'a>],
 ) -> Result<Plan<'a>, AllocError>
-    ensures calls { IfOk result (λ p. map request_of p.calls.items
+    ensures requests { IfOk result (λ p. map requested p.requests.items
         ≡ requests_of (gathered_by setup.now) (map asked_at commands.now)) }
     ensures expected { IfOk result (λ p. p.expected.items
         ≡ all_expected (gathered_by setup.now) (map asked_at commands.now)) }
 {
     let mut plan = Plan {
-        calls: vec![in heap; Call::Attach]?,
+        requests: vec![in heap; Request::Plain(Plain::Attach)]?,
         expected: vec![in heap; awaited(Source::Format), awaited(Source::Attach)]?,
     };
     for numbered in commands {
@@ -165,11 +165,21 @@ pub fn plan_day<'a>(
     Ok(plan)
 }
 
-/// The replies, in order: what was said before the desk was asked, and else the desk's next answer.
+/// What is said of what the desk told of a line: where no slip of the name waits, the line is refused.
+fn said_of_told(source: Source, told: Told) -> Said
+    ensures value { result ≡ said_of source told }
+{
+    match told {
+        Told::NoSuchSlip => Said::NoSlip(Refusal::at(Reason::BadScript, source.line())),
+        _ => Said::Answered(told),
+    }
+}
+
+/// The replies, in order: what was said before the desk was asked, and else what it told next.
 pub fn replies_to(
     heap: Global,
     expected: &[Expected],
-    answers: &[Answer],
+    answers: &[Told],
 ) -> Result<Vec<Reply>, AllocError>
     ensures replies { IfOk result (λ v. v.items ≡ replies_of expected.now answers.now) }
 {
@@ -179,11 +189,11 @@ pub fn replies_to(
         let said = match next.said {
             Some(said) => said,
             None => {
-                let Some((answer, later)) = left.split_first() else {
+                let Some((told, later)) = left.split_first() else {
                     return Ok(replies);
                 };
                 left = later;
-                Said::Answered(*answer)
+                said_of_told(next.source, *told)
             }
         };
         replies.push(Reply {

@@ -1,10 +1,10 @@
 ghost use Rattle.std.specs.Prelude.{◌≡◌, Some};
-ghost use Rattle.day.specs.Texts.{note_text, slip_text, answer_text, source_text, said_text, reply_text};
+ghost use Rattle.day.specs.Texts.{note_text, slip_text, told_text, source_text, said_text, reply_text};
 
-use desk::Answer;
+use desk::Told;
 use monitor::Entered;
 use notes::Numbers;
-use refusals::{Reason, Refusal};
+use refusals::{Heading, Reason, Refusal};
 use std::fmt;
 
 /// What a reply answers.
@@ -25,8 +25,24 @@ pub enum Said {
     Note(Numbers),
     /// It was refused before it came to the desk.
     Refused(Refusal),
-    /// What the desk answered.
-    Answered(Answer),
+    /// It was refused, since no slip of the name waits.
+    NoSlip(Refusal),
+    /// What the desk told.
+    Answered(Told),
+}
+
+impl Source {
+    ghost use Rattle.day.specs.Replies.{line_of};
+
+    /// The number of its line; 0 where it has none.
+    pub(crate) fn line(self) -> u64
+        ensures value { result ≡ line_of self }
+    {
+        match self {
+            Source::Format | Source::Attach => 0,
+            Source::Line(line) => line,
+        }
+    }
 }
 
 /// A reply: what was said, and to what.
@@ -82,25 +98,25 @@ impl fmt::Display for SlipText {
     }
 }
 
-/// An answer of the desk in words.
+/// What the desk tells, in words.
 #[derive(Clone, Copy)]
-struct AnswerText(Answer);
+struct ToldText(Told);
 
-impl fmt::Display for AnswerText {
-    ghost output = { λ x. answer_text x.0 };
+impl fmt::Display for ToldText {
+    ghost output = { λ x. Some (told_text x.0) };
 
     fn fmt<W: fmt::Write>(&self, f: &mut fmt::Formatter<W>) -> fmt::Result {
         match self.0 {
-            Answer::Count(Ok(count)) => write!(f, "records: {count}"),
-            Answer::Slip(Ok(entered)) => write!(f, "slip: {}", SlipText(entered)),
-            Answer::Code(Ok(code)) => write!(f, "code {code}"),
-            Answer::Record(Ok(entry)) => write!(f, "record: {entry}"),
-            Answer::Withdrawn(entered) => write!(f, "withdrawn: {}", SlipText(entered)),
-            Answer::NoSuchSlip => f.write_str("no such slip"),
-            Answer::Count(Err(refusal))
-            | Answer::Slip(Err(refusal))
-            | Answer::Code(Err(refusal))
-            | Answer::Record(Err(refusal)) => write!(f, "{refusal}"),
+            Told::Count(Ok(count)) => write!(f, "records: {count}"),
+            Told::Slip(Ok(entered)) => write!(f, "slip: {}", SlipText(entered)),
+            Told::Code(Ok(code)) => write!(f, "code {code}"),
+            Told::Record(Ok(entry)) => write!(f, "record: {entry}"),
+            Told::Withdrawn(entered) => write!(f, "withdrawn: {}", SlipText(entered)),
+            Told::NoSuchSlip => f.write_str("no slip of this name waits"),
+            Told::Count(Err(refusal))
+            | Told::Slip(Err(refusal))
+            | Told::Code(Err(refusal))
+            | Told::Record(Err(refusal)) => write!(f, "{refusal}"),
         }
     }
 }
@@ -118,20 +134,23 @@ impl fmt::Display for Source {
 }
 
 impl fmt::Display for Said {
-    ghost output = { λ x. said_text x };
+    ghost output = { λ x. Some (said_text x) };
 
     fn fmt<W: fmt::Write>(&self, f: &mut fmt::Formatter<W>) -> fmt::Result {
         match *self {
             Said::Note(numbers) => write!(f, "note made: {}", NoteText(numbers)),
             Said::Refused(refusal) => write!(f, "{refusal}"),
-            Said::Answered(answer) => write!(f, "{}", AnswerText(answer)),
+            Said::NoSlip(refusal) => {
+                write!(f, "{}: {}", Heading(refusal), ToldText(Told::NoSuchSlip))
+            }
+            Said::Answered(told) => write!(f, "{}", ToldText(told)),
         }
     }
 }
 
 /// One line that says what became of a line of the script.
 impl fmt::Display for Reply {
-    ghost output = { λ x. reply_text x };
+    ghost output = { λ x. Some (reply_text x) };
 
     fn fmt<W: fmt::Write>(&self, f: &mut fmt::Formatter<W>) -> fmt::Result {
         let source = self.source;

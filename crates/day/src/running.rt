@@ -1,18 +1,17 @@
 ghost use Rattle.std.specs.Prelude.{◌≡◌, ◌++◌, map, IfOk, IsSomeAnd};
 ghost use Rattle.script.specs.Grammar.{meaning_of};
 ghost use Rattle.script.specs.Reading.{gathered_by, asked_at, script_reading};
-ghost use Rattle.desk.specs.Serving.{request_of};
-ghost use Rattle.day.specs.Keeping.{KeptAs};
-ghost use Rattle.day.specs.Planning.{first_requests};
+ghost use Rattle.desk.specs.Serving.{requested};
+ghost use Rattle.day.specs.Running.{KeptNew};
 ghost use Rattle.day.specs.Replies.{replies_of};
 ghost use Rattle.day.specs.Running.{new_drive, Shows, RunsOn, Runs};
 
 use crate::audit::Audit;
 use crate::instances::keep_day_of;
 use crate::keeping::Day;
-use crate::planning::{Expected, first_calls, plan_day, replies_to};
+use crate::planning::{Expected, plan_day, replies_to};
 use crate::reply::Reply;
-use desk::Call;
+use desk::Request;
 use script::{BookName, Script, Setup, read_script};
 use std::alloc::{AllocError, Global};
 
@@ -31,28 +30,27 @@ fn keep_on_new_drive<'a>(
     heap: Global,
     book: BookName,
     setup: &'a Setup,
-    calls: Vec<Call<'a>>,
+    requests: Vec<Request<'a>>,
 ) -> Result<Day, AllocError>
-    ensures keeps { IfOk result (KeptAs (meaning_of book) new_drive
-        (first_requests (gathered_by setup.now)) (map request_of calls.entry.items)) }
+    ensures keeps { IfOk result (KeptNew (meaning_of book) (gathered_by setup.now)
+        (map requested requests.entry.items)) }
 {
     let mut bytes = vec![in heap; 0; DRIVE]?;
-    let first = first_calls(heap, setup)?;
-    let cuts = setup.cuts.as_slice();
-    keep_day_of(heap, book, bytes.as_mut_slice(), cuts, first, calls)
+    let (_, day) = keep_day_of(heap, book, bytes.as_mut_slice(), setup, requests);
+    day
 }
 
-/// What a day came to, by its answers.
+/// What a day came to, by what was told.
 fn outcome_of(heap: Global, expected: &[Expected], day: Day) -> Result<Outcome, AllocError>
     ensures replies { IfOk result (λ o.
-        o.replies.items ≡ replies_of expected.now (day.firsts.items ++ day.answers.items)) }
-    ensures audit { IfOk result (λ o. IsSomeAnd o.audit (Shows day.stage day.audit.items)) }
+        o.replies.items ≡ replies_of expected.now (day.firsts.items ++ day.told.items)) }
+    ensures audit { IfOk result (λ o. IsSomeAnd o.audit (Shows day.stage day.looks.items)) }
 {
     let mut answers = day.firsts;
-    answers.extend_from_slice(day.answers.as_slice())?;
+    answers.extend_from_slice(day.told.as_slice())?;
     Ok(Outcome {
         replies: replies_to(heap, expected, answers.as_slice())?,
-        audit: Some(Audit::of(heap, day.stage, day.audit.as_slice())?),
+        audit: Some(Audit::of(heap, day.stage, day.looks.as_slice())?),
     })
 }
 
@@ -62,7 +60,7 @@ fn run_rig(heap: Global, book: BookName, script: &Script) -> Result<Outcome, All
         (map asked_at script.now.commands.items) o.replies.items o.audit) }
 {
     let plan = plan_day(heap, &script.setup, script.commands.as_slice())?;
-    let day = keep_on_new_drive(heap, book, &script.setup, plan.calls)?;
+    let day = keep_on_new_drive(heap, book, &script.setup, plan.requests)?;
     outcome_of(heap, plan.expected.as_slice(), day)
 }
 

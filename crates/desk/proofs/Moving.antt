@@ -1,96 +1,75 @@
--- Calls at the desk: each moves the monitor, the tray and what happened as its definition says.
-use Rattle.std.proofs.Common.{◌≡◌, ℕ, List, ◌∷◌, ◌++◌, [], Some, None, Ok, Err, Result, refl, sym, ap, subst}
-use Rattle.refusals.specs.declared.refusal.Refusal.{Refusal}
-use Rattle.books.specs.Meaning.{Meaning}
-use Rattle.notes.specs.declared.numbers.Numbers.{Numbers}
+-- Requests at the desk: each moves the monitor, the tray and what happened as its definition says.
+use Rattle.std.proofs.Common.{◌≡◌, ℕ, List, ◌∷◌, ◌++◌, [], Some, None, Ok, Option, refl, sym, ap, subst, ◌∙◌}
+use Rattle.books.specs.Meaning.{Meaning, StepTests, StepGivesCodes}
 use Rattle.monitor.specs.declared.entered.Entered.{Entered}
-use Rattle.records.specs.declared.record.Record.{Record}
-use Rattle.carrying.specs.declared.row_draft.RowDraft.{RowDraft}
-use Rattle.monitor.specs.Calls.{Countersigns as MonitorCountersigns, Certifies as MonitorCertifies, Strikes as MonitorStrikes}
-use Rattle.monitor.specs.Starting.{Formats as MonitorFormats, Attaches as MonitorAttaches}
-use Rattle.monitor.specs.Asking.{entered, item_seen, record_seen}
 use Rattle.monitor.specs.Machine.{Machine}
-use Rattle.monitor.specs.Slips.{Paper, handed_out}
-use Rattle.desk.specs.declared.answer.Answer.{Answer}
-use Rattle.desk.specs.declared.answer.Answer.TheVariants as answer
-use Rattle.histories.specs.Events.{Event, Formatted, Attached, NoteEntered, Countersigned, Certified, Struck, ItemSeen, RecordSeen, Happens}
+use Rattle.histories.specs.declared.answer.Answer.{Answer}
+use Rattle.calls.specs.Plain.{PlainCall}
+use Rattle.histories.specs.Events.{Called, Countersigns as CalledCountersigns, Event, event, PlainlyPromised, Happens, still, more, onto}
+use Rattle.histories.specs.Law.{LawHolds, Extends}
+use Rattle.desk.specs.declared.told.Told.{Told}
+use Rattle.desk.specs.declared.told.Told.TheVariants as told-as
 use Rattle.desk.specs.declared.tray.Waiting.{Waiting}
-use Rattle.desk.specs.Serving.{ticket_of, tickets_of, Ticket, Moves, Serves, Answered, Request, Formats, Attaches, Certifies, Strikes, LooksAtItem, LooksAtRecord, Enters, Countersigns, Withdraws, CountersignsSlip, WithdrawsSlip, with_slip, waiting, without}
+use Rattle.desk.specs.Serving.{Requested, ticket_of, tickets_of, told, with_slip, waiting, without, Desk, MakesCall, CountersignsSlip, WithdrawsSlip, Makes, Asks, Countersigns, Withdraws}
 
--- the numbers of a slip that was handed out, or the refusal
-abbrev pub told : Result Paper Refusal → Result Entered Refusal
-told (Ok slip) = Ok slip.entered
-told (Err e) = Err e
+-- one event more, on whatever history led to the monitor
+pub extended : (law : LawHolds) (m : Meaning) → StepTests m → StepGivesCodes m → (s t : Machine) (e : Event) → Happens m s e t → Extends m s (e ∷ []) t
+extended law m tests gives s t e k = record { run = more still k; law = λ es h. law m tests gives (e ∷ es) t (onto h (more still k)) }
 
-pub told_back : (r : Result Entered Refusal) → told (handed_out r) ≡ r
-told_back (Ok numbers) = refl
-told_back (Err e) = refl
+-- a call that happened, and its slip, which was laid on the tray
+pub made :
+    (m : Meaning) (s t : Machine) (ws us : List Waiting) (name : List ℕ) (c : Called) (a : Answer) (b : Told)
+    → Happens m s (event c a) t → b ≡ told a → tickets_of us ≡ with_slip (tickets_of ws) name a → Makes m s ws name c b t us
+made m s t ws us name c a b h e l es = (event c a ∷ es, record { answer = a; happens = h; tells = e; tray_now = l; noted = refl })
 
--- a call of the monitor that happened
-pub moved : (m : Meaning) (s t : Machine) (e : Event) (tray now : List Ticket) (es : List Event) → Happens m s e t
-    → Moves m (record { machine = s; tray = tray; happened = es }) e now (record { machine = t; tray = now; happened = e ∷ es })
-moved m s t e tray now es h = record { happens = h; tray_now = refl; noted = refl }
-
-module _ (m : Meaning) (s : Machine) (tray : List Ticket) (name : List ℕ) where
-  -- a note that was entered, accepted or not
-  pub enters : (user : ℕ) (word : List ℕ) (note : Numbers) (r : Result Entered Refusal) (now : List Ticket) → r ≡ entered m s user word note → now ≡ with_slip tray name r
-      → Answered m s tray (Enters name user word note) (answer.Slip r) s now
-  enters user word note r now h e es =
-      subst (λ z. (fs : List Event) × Serves m (record { machine = s; tray = tray; happened = es }) (Enters name user word note) (answer.Slip r) (record { machine = s; tray = z; happened = fs }))
-      (sym e) (_, (r, refl, moved m s s (NoteEntered user word note r) tray (with_slip tray name r) es (h, refl)))
-
-  -- a slip that waits, countersigned
-  pub countersigns : (user : ℕ) (word : List ℕ) (slip : Entered) (r : Result ℕ Refusal) (t : Machine) (now : List Ticket) → Some slip ≡ waiting tray name → now ≡ without tray name → MonitorCountersigns m s user word slip r t
-      → Answered m s tray (Countersigns name user word) (answer.Count r) t now
-  countersigns user word slip r t now w e h es =
-      subst (λ z. (fs : List Event) × CountersignsSlip m (record { machine = s; tray = tray; happened = es }) name user word (waiting tray name) (answer.Count r) (record { machine = t; tray = z; happened = fs })) (sym e)
-      (subst (λ z. (fs : List Event) × CountersignsSlip m (record { machine = s; tray = tray; happened = es }) name user word z (answer.Count r) (record { machine = t; tray = without tray name; happened = fs })) w
-      (_, (r, refl, moved m s t (Countersigned user word slip r) tray (without tray name) es h)))
+module _ (m : Meaning) (s : Machine) (ws us : List Waiting) (name : List ℕ) where
+  -- a slip that waits, taken off the tray and countersigned
+  pub countersigns :
+      (user : ℕ) (word : List ℕ) (slip : Entered) (t : Machine) (vs : List Waiting) (b : Told)
+      → Some slip ≡ waiting (tickets_of ws) name → tickets_of us ≡ without (tickets_of ws) name
+      → Makes m s us name (CalledCountersigns user word slip) b t vs → Asks m s ws (Countersigns name user word) b t vs
+  countersigns user word slip t vs b w e k es =
+      let n = k es in
+      let before : Desk = record { machine = s; tray = tickets_of ws; happened = es } in
+      let after : Desk = record { machine = t; tray = tickets_of vs; happened = n.0 } in
+      let moved = subst (λ z. MakesCall m (record before { tray = z }) name (CalledCountersigns user word slip) b after) e n.1 in
+      (n.0, subst (λ o. CountersignsSlip m before name user word o b after) w moved)
 
   -- or withdrawn
-  pub withdraws : (slip : Entered) (now : List Ticket) → Some slip ≡ waiting tray name → now ≡ without tray name → Answered m s tray (Withdraws name) (answer.Withdrawn slip) s now
-  withdraws slip now w e es =
-      subst (λ z. (fs : List Event) × WithdrawsSlip (record { machine = s; tray = tray; happened = es }) name (waiting tray name) (answer.Withdrawn slip) (record { machine = s; tray = z; happened = fs })) (sym e)
-      (subst (λ z. (fs : List Event) × WithdrawsSlip (record { machine = s; tray = tray; happened = es }) name z (answer.Withdrawn slip) (record { machine = s; tray = without tray name; happened = fs })) w
-      (es, (refl, refl)))
+  pub withdraws :
+      (slip : Entered) → Some slip ≡ waiting (tickets_of ws) name → tickets_of us ≡ without (tickets_of ws) name
+      → Asks m s ws (Withdraws name) (told-as.Withdrawn slip) s us
+  withdraws slip w e es =
+      let before : Desk = record { machine = s; tray = tickets_of ws; happened = es } in
+      let after : Desk = record { machine = s; tray = tickets_of us; happened = es } in
+      (es, subst (λ o. WithdrawsSlip before name o (told-as.Withdrawn slip) after) w (refl, ap (λ z. record before { tray = z }) e))
 
   -- no slip waits
-  pub countersigns_none : (user : ℕ) (word : List ℕ) (now : List Ticket) → None ≡ waiting tray name → now ≡ tray → Answered m s tray (Countersigns name user word) answer.NoSuchSlip s now
-  countersigns_none user word now w e es =
-      subst (λ z. (fs : List Event) × CountersignsSlip m (record { machine = s; tray = tray; happened = es }) name user word (waiting tray name) answer.NoSuchSlip (record { machine = s; tray = z; happened = fs })) (sym e)
-      (subst (λ z. (fs : List Event) × CountersignsSlip m (record { machine = s; tray = tray; happened = es }) name user word z answer.NoSuchSlip (record { machine = s; tray = tray; happened = fs })) w (es, (refl, refl)))
+  pub countersigns_none :
+      (user : ℕ) (word : List ℕ) → None ≡ waiting (tickets_of ws) name → tickets_of us ≡ tickets_of ws
+      → Asks m s ws (Countersigns name user word) told-as.NoSuchSlip s us
+  countersigns_none user word w e es =
+      let before : Desk = record { machine = s; tray = tickets_of ws; happened = es } in
+      let after : Desk = record { machine = s; tray = tickets_of us; happened = es } in
+      (es, subst (λ o. CountersignsSlip m before name user word o told-as.NoSuchSlip after) w (refl, ap (λ z. record before { tray = z }) e))
 
-  pub withdraws_none : (now : List Ticket) → None ≡ waiting tray name → now ≡ tray → Answered m s tray (Withdraws name) answer.NoSuchSlip s now
-  withdraws_none now w e es =
-      subst (λ z. (fs : List Event) × WithdrawsSlip (record { machine = s; tray = tray; happened = es }) name (waiting tray name) answer.NoSuchSlip (record { machine = s; tray = z; happened = fs })) (sym e)
-      (subst (λ z. (fs : List Event) × WithdrawsSlip (record { machine = s; tray = tray; happened = es }) name z answer.NoSuchSlip (record { machine = s; tray = tray; happened = fs })) w (es, (refl, refl)))
+  pub withdraws_none :
+      None ≡ waiting (tickets_of ws) name → tickets_of us ≡ tickets_of ws → Asks m s ws (Withdraws name) told-as.NoSuchSlip s us
+  withdraws_none w e es =
+      let before : Desk = record { machine = s; tray = tickets_of ws; happened = es } in
+      let after : Desk = record { machine = s; tray = tickets_of us; happened = es } in
+      (es, subst (λ o. WithdrawsSlip before name o told-as.NoSuchSlip after) w (refl, ap (λ z. record before { tray = z }) e))
 
 -- a slip that is laid behind the others
 pub laid : (ws : List Waiting) (w : Waiting) → tickets_of (ws ++ (w ∷ [])) ≡ tickets_of ws ++ (ticket_of w ∷ [])
 laid [] w = refl
 laid (v ∷ ws) w = ap (λ z. ticket_of v ∷ z) (laid ws w)
 
--- the calls that touch no slip
-module _ (m : Meaning) (s t : Machine) (tray : List Ticket) where
-  pub formats : (house : ℕ) (roll opening : List ℕ) (r : Result ℕ Refusal) → MonitorFormats m s house roll opening r t → Answered m s tray (Formats house roll opening) (answer.Count r) t tray
-  formats house roll opening r h es = (_, (r, refl, moved m s t (Formatted house roll opening r) tray tray es h))
+-- a call, and a request, by another name
+pub as_called :
+    (m : Meaning) (s t : Machine) (c d : PlainCall) (a : Answer) → c ≡ d → PlainlyPromised m s d a t → PlainlyPromised m s c a t
+as_called m s t c d a e h = subst (λ z. PlainlyPromised m s z a t) (sym e) h
 
-  pub attaches : (r : Result ℕ Refusal) → MonitorAttaches m s r t → Answered m s tray Attaches (answer.Count r) t tray
-  attaches r h es = (_, (r, refl, moved m s t (Attached r) tray tray es h))
-
-  pub certifies : (word : List ℕ) (d : RowDraft) (r : Result ℕ Refusal) → MonitorCertifies m s word d r t → Answered m s tray (Certifies word d) (answer.Count r) t tray
-  certifies word d r h es = (_, (r, refl, moved m s t (Certified word d r) tray tray es h))
-
-  pub strikes : (word : List ℕ) (row : ℕ) (r : Result ℕ Refusal) → MonitorStrikes s word row r t → Answered m s tray (Strikes word row) (answer.Count r) t tray
-  strikes word row r h es = (_, (r, refl, moved m s t (Struck word row r) tray tray es h))
-
-  -- a request by another name
-  pub as_asked : (k l : Request) (a : Answer) (now : List Ticket) → k ≡ l → Answered m s tray l a t now → Answered m s tray k a t now
-  as_asked k l a now e h = subst (λ z. Answered m s tray z a t now) (sym e) h
-
-module _ (m : Meaning) (s : Machine) (tray : List Ticket) where
-  pub looks_at_item : (item : ℕ) (r : Result ℕ Refusal) → r ≡ item_seen s item → Answered m s tray (LooksAtItem item) (answer.Code r) s tray
-  looks_at_item item r h es = (_, (r, refl, moved m s s (ItemSeen item r) tray tray es (h, refl)))
-
-  pub looks_at_record : (number : ℕ) (r : Result Record Refusal) → r ≡ record_seen s number → Answered m s tray (LooksAtRecord number) (answer.Record r) s tray
-  looks_at_record number r h es = (_, (r, refl, moved m s s (RecordSeen number r) tray tray es (h, refl)))
+pub as_asked :
+    (m : Meaning) (s t : Machine) (ws us : List Waiting) (q r : Requested) (b : Told) → q ≡ r → Asks m s ws r b t us → Asks m s ws q b t us
+as_asked m s t ws us q r b e h = subst (λ z. Asks m s ws z b t us) (sym e) h

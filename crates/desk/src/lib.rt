@@ -1,13 +1,14 @@
-// The desk: the calls that people make, one after another, with the slips that wait between enter and countersign. It holds the
-// tally of what the books should hold and the law over every history of calls, and `serve` carries that law.
+// The desk. `make_call` makes any one call on a monitor, and carries the law over every history of calls. `serve` makes the
+// calls that people ask for, one after another, with the slips that wait between enter and countersign or withdraw.
 #![tactic(auto)]
 
-mod answer;
-mod answering;
-mod call;
+mod making;
+mod request;
 mod serving;
+mod told;
 mod tray;
 
-pub use answer::Answer;
-pub use call::Call;
+pub use making::make_call;
+pub use request::Request;
 pub use serving::serve;
+pub use told::Told;

@@ -1,34 +1,83 @@
-ghost use Rattle.std.specs.Prelude.{◌≡◌, map, IfOk, OnErr};
-ghost use Rattle.desk.specs.Serving.{request_of, Served};
+ghost use Rattle.std.specs.Prelude.{◌≡◌, ◌<◌, ◌≤◌, ◌+◌, map, vec_len, vec_capacity, IfOk, OnErr};
+ghost use Rattle.histories.specs.Events.{called};
+ghost use Rattle.desk.specs.Serving.{requested, Asks, Makes, Served};
 
-use crate::answer::Answer;
-use crate::answering::answer;
-use crate::call::Call;
-use crate::tray::{Waiting, clear};
+use crate::making::make_call;
+use crate::request::Request;
+use crate::told::Told;
+use crate::tray::{Waiting, clear, lay_slip, take_slip};
 use books::Book;
 use drives::Drive;
-use histories::every_history_is_lawful;
+use histories::{Call, every_history_is_lawful};
 use monitor::Monitor;
 use std::alloc::{AllocError, Global};
 
-/// Makes calls one after another, and answers each. Slips that still wait at the end are withdrawn. It fails only for want of
-/// memory, before the first call.
+/// Makes a call. The slip that its answer hands out, if it does, waits under the name.
+fn make<'a, D: Drive, B: Book>(
+    monitor: &mut Monitor<D, B>,
+    tray: &mut Vec<Waiting<'a>>,
+    name: &'a [u8],
+    call: Call<'_>,
+) -> Told
+    requires room { vec_len tray.old < vec_capacity tray.old }
+    ensures makes { Makes B.meaning monitor.old tray.old.items name.now (called call.entry)
+        result monitor.new tray.new.items }
+    ensures longer { vec_len tray.new ≤ vec_len tray.old + 1 }
+    ensures capacity { vec_capacity tray.new ≡ vec_capacity tray.old }
+{
+    lay_slip(tray, name, make_call(monitor, call))
+}
+
+/// Does what one request asks.
+fn answer<'a, D: Drive, B: Book>(
+    monitor: &mut Monitor<D, B>,
+    tray: &mut Vec<Waiting<'a>>,
+    request: Request<'a>,
+) -> Told
+    requires room { vec_len tray.old < vec_capacity tray.old }
+    ensures asks { Asks B.meaning monitor.old tray.old.items (requested request.entry)
+        result monitor.new tray.new.items }
+    ensures longer { vec_len tray.new ≤ vec_len tray.old + 1 }
+    ensures capacity { vec_capacity tray.new ≡ vec_capacity tray.old }
+{
+    match request {
+        Request::Enter {
+            name,
+            user,
+            word,
+            note,
+        } => make(monitor, tray, name, Call::Enter { user, word, note }),
+        Request::Countersign { name, user, word } => match take_slip(tray, name) {
+            Some(slip) => make(monitor, tray, name, Call::Countersign { user, word, slip }),
+            None => Told::NoSuchSlip,
+        },
+        Request::Withdraw { name } => match take_slip(tray, name) {
+            Some(slip) => Told::Withdrawn(slip.withdraw()),
+            None => Told::NoSuchSlip,
+        },
+        // No other call hands out a slip, so no name is needed.
+        Request::Plain(call) => make(monitor, tray, &[], Call::Plain(call)),
+    }
+}
+
+/// Does what is asked, one request after another, and tells the answer to each. Slips that still wait at the end are
+/// withdrawn. It fails only for want of memory, before the first request.
 pub fn serve<'a, D: Drive, B: Book>(
     monitor: &mut Monitor<D, B>,
     heap: Global,
-    calls: Vec<Call<'a>>,
-) -> Result<Vec<Answer>, AllocError>
-    ensures served { IfOk result (λ answers. Served B.meaning monitor.old
-        (map request_of calls.entry.items) answers.items monitor.new) }
+    requests: Vec<Request<'a>>,
+) -> Result<Vec<Told>, AllocError>
+    ensures served { IfOk result (λ told. Served B.meaning monitor.old
+        (map requested requests.entry.items) told.items monitor.new) }
     ensures untouched { OnErr result (monitor.new ≡ monitor.old) }
 {
     // The law holds of every history: what is promised of this one rests on it.
     every_history_is_lawful();
-    let mut answers = Vec::with_capacity(heap, calls.len())?;
-    let mut tray: Vec<Waiting<'a>> = Vec::with_capacity(heap, calls.len())?;
-    for call in calls {
-        answers.push_reserved(answer(monitor, &mut tray, call));
+    let mut told = Vec::with_capacity(heap, requests.len())?;
+    let mut tray: Vec<Waiting<'a>> = Vec::with_capacity(heap, requests.len())?;
+    for request in requests {
+        told.push_reserved(answer(monitor, &mut tray, request));
     }
     clear(tray);
-    Ok(answers)
+    Ok(told)
 }

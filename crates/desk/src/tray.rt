@@ -1,7 +1,9 @@
-ghost use Rattle.std.specs.Prelude.{◌≡◌, ◌≤◌, vec_len, vec_capacity};
+ghost use Rattle.std.specs.Prelude.{◌≡◌, ◌<◌, ◌≤◌, ◌+◌, vec_len, vec_capacity};
 ghost use Rattle.std.specs.Option.{option_map};
-ghost use Rattle.desk.specs.Serving.{tickets_of, waiting, without};
+ghost use Rattle.desk.specs.Serving.{tickets_of, waiting, without, with_slip, told};
 
+use crate::told::Told;
+use histories::Answer;
 use monitor::Slip;
 
 /// A slip that waits at the desk, under the name that it was entered under.
@@ -21,6 +23,28 @@ pub(crate) fn take_slip<'a>(tray: &mut Vec<Waiting<'a>>, name: &[u8]) -> Option<
     let place = tray.iter().position(|waiting| waiting.name == name)?;
     let Waiting { name: _, slip } = tray.remove(place);
     Some(slip)
+}
+
+/// Lays the slip that an answer hands out on the tray, under a name, and tells the answer.
+pub(crate) fn lay_slip<'a>(tray: &mut Vec<Waiting<'a>>, name: &'a [u8], answer: Answer) -> Told
+    requires room { vec_len tray.old < vec_capacity tray.old }
+    ensures tells { result ≡ told answer }
+    ensures slip { tickets_of tray.new.items ≡
+        with_slip (tickets_of tray.old.items) name.now answer }
+    ensures longer { vec_len tray.new ≤ vec_len tray.old + 1 }
+    ensures capacity { vec_capacity tray.new ≡ vec_capacity tray.old }
+{
+    match answer {
+        Answer::Slip(Ok(slip)) => {
+            let entered = slip.entered();
+            tray.push_reserved(Waiting { name, slip });
+            Told::Slip(Ok(entered))
+        }
+        Answer::Slip(Err(refusal)) => Told::Slip(Err(refusal)),
+        Answer::Count(count) => Told::Count(count),
+        Answer::Code(code) => Told::Code(code),
+        Answer::Record(entry) => Told::Record(entry),
+    }
 }
 
 /// Withdraws every slip that waits.

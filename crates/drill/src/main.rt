@@ -6,6 +6,7 @@
 use changes::Change;
 use drives::Drive;
 use journals::{ChangeFault, Journal, Place};
+use std::fmt;
 use trial::TrialDrive;
 
 /// A drive of sixteen blocks.
@@ -25,27 +26,46 @@ fn four_blocks() -> Option<Change> {
 }
 
 // What the drill prints is its own words: a `Display` in `journals` would be for this program alone.
-/// Where a change was cut, or why it was not begun.
-fn fault_text(fault: ChangeFault) -> &'static str {
-    match fault {
-        ChangeFault::Cut(Place::Staging) => "place 1",
-        ChangeFault::Cut(Place::Committing) => "place 2",
-        ChangeFault::Cut(Place::Applying) => "place 3",
-        ChangeFault::Off => "off",
-        ChangeFault::Beyond => "beyond the drive",
+/// What became of the change.
+#[derive(Clone, Copy)]
+enum Outcome {
+    /// It was made.
+    Done,
+    /// Power was lost at this place.
+    Cut(Place),
+    /// It was not begun, and why.
+    Trouble(&'static str),
+}
+
+impl fmt::Display for Outcome {
+    fn fmt<W: fmt::Write>(&self, f: &mut fmt::Formatter<W>) -> fmt::Result {
+        match *self {
+            Outcome::Done => f.write_str("done"),
+            Outcome::Cut(place) => write!(f, "place {}", u64::from(place)),
+            Outcome::Trouble(trouble) => f.write_str(trouble),
+        }
     }
 }
 
-// The faults of the drill are the words that it prints.
-/// Makes the change with one cut number, or says what became of it.
-fn change_cut_at(bytes: &mut [u8], cut: u16) -> Result<(), &'static str> {
+/// Makes the change with one cut number.
+fn change_cut_at(bytes: &mut [u8], cut: u16) -> Outcome {
     let cuts = [cut];
     let mut journal = Journal::over(TrialDrive::over(bytes, &cuts));
-    journal.power().map_err(|_| "no power")?;
-    let change = four_blocks().ok_or("no change")?;
-    journal.change(&change).map_err(fault_text)
+    if journal.power().is_err() {
+        return Outcome::Trouble("no power");
+    }
+    let Some(change) = four_blocks() else {
+        return Outcome::Trouble("no change");
+    };
+    match journal.change(&change) {
+        Ok(()) => Outcome::Done,
+        Err(ChangeFault::Cut(place)) => Outcome::Cut(place),
+        Err(ChangeFault::Off) => Outcome::Trouble("off"),
+        Err(ChangeFault::Beyond) => Outcome::Trouble("beyond the drive"),
+    }
 }
 
+// The faults of finishing are the words that the drill prints.
 /// Finishes on a fresh drive over the same bytes, and counts the blocks of the change that stand.
 fn count_standing(bytes: &mut [u8]) -> Result<usize, &'static str> {
     let mut journal = Journal::over(TrialDrive::over(bytes, &[]));
@@ -66,14 +86,14 @@ fn count_standing(bytes: &mut [u8]) -> Result<usize, &'static str> {
 /// One line of the drill.
 fn drill(rt: &HostRuntime, cut: u16) -> anyhow::Result<()> {
     let mut bytes = [0; BYTES];
-    let place = change_cut_at(&mut bytes, cut).err().unwrap_or("done");
+    let outcome = change_cut_at(&mut bytes, cut);
     let standing = match count_standing(&mut bytes) {
         Ok(0) => "does not stand",
         Ok(count) if count == BLOCKS.len() => "stands",
         Ok(_) => "STANDS IN PART",
         Err(trouble) => trouble,
     };
-    println!(rt; "cut number {cut}: {place}, the change {standing}")?;
+    println!(rt; "cut number {cut}: {outcome}, the change {standing}")?;
     Ok(())
 }
 

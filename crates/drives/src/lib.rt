@@ -7,17 +7,17 @@ ghost use Rattle.drives.specs.Disk.{Disk, size as type_size};
 ghost use Rattle.drives.specs.Calls.{Reads, Writes, Flushes, Powers};
 
 /// Why a drive did not do what it was asked. The first three are refusals, in the order of their tests: they change
-/// nothing. The last is power lost in the call.
+/// nothing, and people never see them. The last is power lost in the call, by the number that people see.
 #[derive(Clone, Copy, PartialEq, Eq, Debug)]
 pub enum DriveFault {
     /// There is no power.
-    Off = 1,
+    Off,
     /// The block number is beyond the drive.
-    NoSuchBlock = 2,
+    NoSuchBlock,
     /// The buffer is not 64 bytes.
-    BadBuffer = 3,
+    BadBuffer,
     /// Power was lost.
-    PowerLost = 4,
+    PowerLost = 7,
 }
 
 /// A drive. Each call's promise is in terms of `disk`, the drive's meaning.

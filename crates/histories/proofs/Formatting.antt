@@ -68,7 +68,7 @@ began_good m most n house roll opening f fit =
     record {
       opening = record { valid = f.valid; long = f.opening_long; fit = fit };
       items = record { valid = f.valid; long = f.opening_long; fit = fit };
-      rows = record { long = refl; fit = free_fit };
+      rows = record { long = refl; fit = free_fit; executes = refl };
       carried_out = refl;
       every = refl;
       few = omega arith;

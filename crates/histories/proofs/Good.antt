@@ -21,7 +21,10 @@ use Rattle.carrying.specs.Rows.{row_draft_of}
 use Rattle.carrying.specs.Carried.{posted, carried, carried_all}
 use Rattle.histories.specs.Law.{rows_after, EachByTwo, TwoPeople}
 use Rattle.histories.specs.Tally.{Books, made_to}
-use Rattle.histories.proofs.Carrying.{Posted, posted_tells, RowSet, certified_tells, struck_tells}
+use Rattle.carrying.specs.Carried.{enters, countersigns}
+use Rattle.lists.specs.Elements.{all_set}
+use Rattle.std.specs.List.{list_all}
+use Rattle.histories.proofs.Carrying.{row_executes, who_executes, Posted, posted_tells, RowSet, certified_tells, struck_tells}
 
 -- 32 free rows
 abbrev pub free_rows : List Row
@@ -37,6 +40,7 @@ pub record GoodCodes (m : Meaning) (codes : List ℕ) : Type 0 where
 pub record GoodRows (rows : List Row) : Type 0 where
   pub long : length rows ≡ 32
   pub fit : RowsFit rows
+  pub executes : list_all row_executes rows ≡ true
 
 -- what holds of books that a drive can show
 pub record Good (m : Meaning) (most : ℕ) (t : Books) : Type 0 where
@@ -116,14 +120,15 @@ fit_set xs k x f h i =
       | inr n ↦ omega (arith, get_or-set_other xs k i x 0 n, f i)
     ]
 
-rows_set : (rows : List Row) (k : ℕ) (w : Row) → GoodRows rows → k ≤ 31 → w.mask < 2 ^ 64 → GoodRows (set rows k w)
-rows_set rows k w g low fit =
+rows_set : (rows : List Row) (k : ℕ) (w : Row) → GoodRows rows → k ≤ 31 → w.mask < 2 ^ 64 → row_executes w ≡ true → GoodRows (set rows k w)
+rows_set rows k w g low fit who =
     record {
       long = length-set rows k w ∙ g.long;
       fit = λ i. elim (cases_eq i k) [
         | inl e ↦ subst (λ (v : Row). v.mask < 2 ^ 64) (sym (ap (λ j. get_or (set rows k w) j free) e ∙ get_or-set_same rows k w free (omega (arith, g.long)))) fit
         | inr n ↦ subst (λ (v : Row). v.mask < 2 ^ 64) (sym (get_or-set_other rows k i w free n)) (g.fit i)
       ];
+      executes = all_set row_executes rows k w who g.executes;
     }
 
 module _ (m : Meaning) (most : ℕ) (t : Books) (g : Good m most t) where
@@ -153,7 +158,7 @@ module _ (m : Meaning) (most : ℕ) (t : Books) (g : Good m most t) where
       let is : s ≡ with_row t.standing k w = r.is in
       one_more x s c two r.had_room (ap (λ (z : Standing). z.count) is)
       (subst (λ (z : Standing). GoodCodes m z.items) (sym is) g.items)
-      (subst (λ (z : Standing). GoodRows z.rows) (sym is) (rows_set t.standing.rows k w g.rows r.row_low fit))
+      (subst (λ (z : Standing). GoodRows z.rows) (sym is) (rows_set t.standing.rows k w g.rows r.row_low fit r.executes))
       (ap (λ (z : Standing). z.rows) is ∙ sym rows)
 
   -- two codes replaced
@@ -164,7 +169,14 @@ module _ (m : Meaning) (most : ℕ) (t : Books) (g : Good m most t) where
       let is : s ≡ with_codes t.standing p.a p.b f.codes = f.is in
       let once : List ℕ = set t.standing.items p.a f.codes.0 in
       let fit = gives (draft_of p) _ f.codes.0 f.codes.1 (g.items.fit p.a) (g.items.fit p.b) f.stepped in
-      one_more (Posting p) s c (subst (λ z. TwoPeople z p) g.rows_given f.people) f.had_room (ap (λ (z : Standing). z.count) is)
+      let people : TwoPeople t.standing.rows p = record {
+        different = f.different;
+        enterer_executes = who_executes t.standing.rows (enters p) p.a g.rows.executes f.enterer.0;
+        countersigner_executes = who_executes t.standing.rows (countersigns p) p.a g.rows.executes f.countersigner.0;
+        enterer = f.enterer;
+        countersigner = f.countersigner;
+      } in
+      one_more (Posting p) s c (subst (λ z. TwoPeople z p) g.rows_given people) f.had_room (ap (λ (z : Standing). z.count) is)
       (record {
         valid = f.valid;
         long = ap (λ (z : Standing). length z.items) is ∙ length-set once p.b f.codes.1 ∙ length-set t.standing.items p.a f.codes.0 ∙ g.items.long;

@@ -1,5 +1,5 @@
 -- The law of every history.
-use Rattle.std.proofs.Common.{◌≡◌, ℕ, List, Some, None, Option, Result, refl, sym, ap, subst, IfSome}
+use Rattle.std.proofs.Common.{◌≡◌, ℕ, List, ◌∷◌, Some, None, Option, Result, refl, sym, ap, subst, IfSome}
 use Rattle.refusals.specs.declared.refusal.Refusal.{Refusal}
 use Rattle.refusals.specs.Refused.{◌>>◌}
 use Rattle.books.specs.Meaning.{Meaning, StepTests, StepGivesCodes}
@@ -14,9 +14,11 @@ use Rattle.monitor.specs.declared.stage.Stage.TheVariants.{Shut, Open, Dark}
 use Rattle.monitor.specs.Calls.{Changes, posting, countersigned, certification, certifying, striking}
 use Rattle.monitor.specs.Stages.{may_work}
 use Rattle.monitor.specs.Machine.{Machine, machine, home_of, room_of}
-use Rattle.histories.specs.Events.{Event, Formatted, Attached, NoteEntered, Countersigned, Certified, Struck, ItemSeen, RecordSeen, Happens, History, begun, then, again}
-use Rattle.histories.specs.Law.{Agrees, TookEffect, Owed, AllOwed, Law}
-use Rattle.histories.specs.Tally.{Tally, certain, by_answer, feed, tally}
+use Rattle.calls.specs.Plain.{PlainCall, Formats, Attaches, Certifies, Strikes, LooksAtItem, LooksAtRecord}
+use Rattle.histories.specs.declared.answer.Answer.{Answer}
+use Rattle.histories.specs.Events.{Called, Enters, Countersigns, Plainly, Event, PlainlyPromised, Promised, History, begun, then, again}
+use Rattle.histories.specs.Law.{Agrees, TookEffect, Owed, Law}
+use Rattle.histories.specs.Tally.{Tally, certain, by_answer, fed, tally}
 use Rattle.histories.proofs.Attaching.{attach_keeps}
 use Rattle.histories.proofs.Formatting.{InvIf, format_keeps}
 use Rattle.histories.proofs.Keeping.{Inv, At, AtWork, MayShow, Wants, waits, inv_at, refused_keeps, wants_keeps}
@@ -42,30 +44,48 @@ module _ (m : Meaning) (tests : StepTests m) (gives : StepGivesCodes m) where
   call_keeps t Dark d x w r u i v c = refused_keeps m t x (machine Dark d) u _ r refl c i
   call_keeps t Open d x w r u i v c = open_keeps m gives t d x w r u i (v i) c
 
-  -- each event keeps the invariant, with the tally fed, and gives the tally what it owes
-  event_keeps : (o : Option Tally) (s u : Machine) (e : Event) → InvIf m o s → Happens m s e u → InvIf m (feed m o e) u × IfSome o (λ t. Owed m t e)
-  event_keeps None s u (Formatted house roll opening r) i h = (format_keeps m house roll opening None s u r i h, tt)
-  event_keeps None s u (Attached r) i h = (tt, tt)
-  event_keeps None s u (NoteEntered user word note r) i h = (tt, tt)
-  event_keeps None s u (Countersigned user word slip r) i h = (tt, tt)
-  event_keeps None s u (Certified word asked r) i h = (tt, tt)
-  event_keeps None s u (Struck word row r) i h = (tt, tt)
-  event_keeps None s u (ItemSeen item r) i h = (tt, tt)
-  event_keeps None s u (RecordSeen number r) i h = (tt, tt)
-  event_keeps (Some t) s u (Formatted house roll opening r) i h = (format_keeps m house roll opening (Some t) s u r i h, tt)
-  event_keeps (Some t) s u (Attached r) i h = attach_keeps m t s i r u h
-  event_keeps (Some t) s u (NoteEntered user word note r) i h = (subst (λ (z : Machine). Inv m t z) (sym h.1) i, tt)
-  event_keeps (Some t) s u (Countersigned user word slip r) i h =
-      call_keeps t s.stage s.disk (posting slip user) (countersigned m (machine Open s.disk) user word slip) r u i
-      (λ j. countersigned_wants m t.books s.disk j.fits j.good j.at.working tests user word slip h.note) h.changes
-  event_keeps (Some t) s u (Certified word asked r) i h =
-      call_keeps t s.stage s.disk (certification asked) (certifying m (machine Open s.disk) word asked) r u i
-      (λ j. certifying_wants m t.books s.disk j.fits j.good j.at.working word asked h.fits) h.changes
-  event_keeps (Some t) s u (Struck word row r) i h =
-      call_keeps t s.stage s.disk (Strike row) (striking (machine Open s.disk) word row) r u i
-      (λ j. striking_wants m t.books s.disk j.fits j.good j.at.working word row) h
-  event_keeps (Some t) s u (ItemSeen item r) i h = (subst (λ (z : Machine). Inv m t z) (sym h.1) i, tt)
-  event_keeps (Some t) s u (RecordSeen number r) i h = (subst (λ (z : Machine). Inv m t z) (sym h.1) i, tt)
+  -- a call that only looks, whatever it answers
+  look_keeps : (o : Option Tally) (s u : Machine) → InvIf m o s → u ≡ s → InvIf m o u
+  look_keeps o s u i e = subst (λ (z : Machine). InvIf m o z) (sym e) i
+
+  -- what a call that keeps the invariant leaves, with the tally fed
+  abbrev Keeps : Option Tally → Machine → Called → Answer → Type 0
+  Keeps o u c a = InvIf m (fed m o c a) u × IfSome o (λ t. Owed m t c a)
+
+  -- by another name of its answer
+  as_answered : (o : Option Tally) (u : Machine) (c : Called) (a b : Answer) → a ≡ b → Keeps o u c b → Keeps o u c a
+  as_answered o u c a b e k = subst (Keeps o u c) (sym e) k
+
+  -- each call keeps the invariant, with the tally fed, and gives the tally what it owes
+  plainly_keeps : (o : Option Tally) (s u : Machine) (c : PlainCall) (a : Answer) → InvIf m o s → PlainlyPromised m s c a u → Keeps o u (Plainly c) a
+  plainly_keeps None s u (Formats house roll opening) a i (r, e, h) = as_answered None u (Plainly (Formats house roll opening)) a _ e (format_keeps m house roll opening None s u r i h, tt)
+  plainly_keeps None s u Attaches a i (r, e, h) = as_answered None u (Plainly Attaches) a _ e (tt, tt)
+  plainly_keeps None s u (Certifies word draft) a i (r, e, h) = as_answered None u (Plainly (Certifies word draft)) a _ e (tt, tt)
+  plainly_keeps None s u (Strikes word row) a i (r, e, h) = as_answered None u (Plainly (Strikes word row)) a _ e (tt, tt)
+  plainly_keeps None s u (LooksAtItem item) a i (e, h) = as_answered None u (Plainly (LooksAtItem item)) a _ e (tt, tt)
+  plainly_keeps None s u (LooksAtRecord number) a i (e, h) = as_answered None u (Plainly (LooksAtRecord number)) a _ e (tt, tt)
+  plainly_keeps (Some t) s u (Formats house roll opening) a i (r, e, h) = as_answered (Some t) u (Plainly (Formats house roll opening)) a _ e (format_keeps m house roll opening (Some t) s u r i h, tt)
+  plainly_keeps (Some t) s u Attaches a i (r, e, h) = as_answered (Some t) u (Plainly Attaches) a _ e (attach_keeps m t s i r u h)
+  plainly_keeps (Some t) s u (Certifies word draft) a i (r, e, h) =
+      as_answered (Some t) u (Plainly (Certifies word draft)) a _ e
+      (call_keeps t s.stage s.disk (certification draft) (certifying m (machine Open s.disk) word draft) r u i
+      (λ j. certifying_wants m t.books s.disk j.fits j.good j.at.working word draft h.fits) h.changes)
+  plainly_keeps (Some t) s u (Strikes word row) a i (r, e, h) =
+      as_answered (Some t) u (Plainly (Strikes word row)) a _ e
+      (call_keeps t s.stage s.disk (Strike row) (striking (machine Open s.disk) word row) r u i
+      (λ j. striking_wants m t.books s.disk j.fits j.good j.at.working word row) h)
+  plainly_keeps (Some t) s u (LooksAtItem item) a i (e, h) = as_answered (Some t) u (Plainly (LooksAtItem item)) a _ e (look_keeps (Some t) s u i h, tt)
+  plainly_keeps (Some t) s u (LooksAtRecord number) a i (e, h) = as_answered (Some t) u (Plainly (LooksAtRecord number)) a _ e (look_keeps (Some t) s u i h, tt)
+
+  called_keeps : (o : Option Tally) (s u : Machine) (c : Called) (a : Answer) → InvIf m o s → Promised m s c a u → Keeps o u c a
+  called_keeps o s u (Plainly c) a i h = plainly_keeps o s u c a i h
+  called_keeps None s u (Enters user word note) a i (e, h) = as_answered None u (Enters user word note) a _ e (tt, tt)
+  called_keeps None s u (Countersigns user word slip) a i (r, e, h) = as_answered None u (Countersigns user word slip) a _ e (tt, tt)
+  called_keeps (Some t) s u (Enters user word note) a i (e, h) = as_answered (Some t) u (Enters user word note) a _ e (look_keeps (Some t) s u i h, tt)
+  called_keeps (Some t) s u (Countersigns user word slip) a i (r, e, h) =
+      as_answered (Some t) u (Countersigns user word slip) a _ e
+      (call_keeps t s.stage s.disk (posting slip user) (countersigned m (machine Open s.disk) user word slip) r u i
+      (λ j. countersigned_wants m t.books s.disk j.fits j.good j.at.working tests user word slip h.note) h.changes)
 
   -- a drive that another monitor takes over
   taken_keeps : (o : Option Tally) (s : Machine) (d : State) → InvIf m o s → TakenOver s.disk d → InvIf m o (machine Shut d)
@@ -77,16 +97,6 @@ module _ (m : Meaning) (tests : StepTests m) (gives : StepGivesCodes m) where
         finishable = taken_finishable s.disk d k w.finishable;
         shows = λ h v. subst (λ n. MayShow m (room n) t.books t.doubt h) (sym k.same_size) (w.shows h (taken_stands s.disk d k h v));
       })
-
-  history_keeps : (es : List Event) (s : Machine) → History m es s → InvIf m (tally m es) s × AllOwed m es
-  history_keeps _ _ begun = (tt, tt)
-  history_keeps _ _ (then {es} {s} {t} {e} h d) =
-      let i = history_keeps es s h in
-      let j = event_keeps (tally m es) s t e i.0 d in
-      (j.0, (j.1, i.1))
-  history_keeps _ _ (again {es} {s} {d} h k) =
-      let i = history_keeps es s h in
-      (taken_keeps (tally m es) s d i.0 k, i.1)
 
   -- an open monitor that keeps the invariant agrees with the tally
   agrees : (o : Option Tally) (s : Machine) → InvIf m o s → s.stage ≡ Open → IfSome o (λ t. Agrees m s t.books)
@@ -106,7 +116,16 @@ module _ (m : Meaning) (tests : StepTests m) (gives : StepGivesCodes m) where
         by_two = i.good.by_two;
       }
 
-  pub law_holds : (es : List Event) (s : Machine) → History m es s → Law m es s
-  law_holds es s h =
-      let i = history_keeps es s h in
-      record { agrees = agrees (tally m es) s i.0; owed = i.1 }
+  -- a history keeps the invariant, and obeys the law at every moment
+  keeps_law : (es : List Event) (s : Machine) (h : History m es s) → InvIf m (tally m es) s × Law m h
+  keeps_law _ _ begun = (tt, tt)
+  keeps_law _ _ (then {es} {s} {t} {e} h d) =
+      let i = keeps_law es s h in
+      let j = called_keeps (tally m es) s t e.call e.answer i.0 d in
+      (j.0, (i.1, record { owed = j.1; agrees = agrees (tally m (e ∷ es)) t j.0 }))
+  keeps_law _ _ (again {es} {s} {d} h k) =
+      let i = keeps_law es s h in
+      (taken_keeps (tally m es) s d i.0 k, i.1)
+
+  pub law_holds : (es : List Event) (s : Machine) (h : History m es s) → Law m h
+  law_holds es s h = (keeps_law es s h).1

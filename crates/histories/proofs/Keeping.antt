@@ -4,7 +4,6 @@ use Rattle.std.proofs.Common.{◌≡◌, ℕ, ◌+◌, true, eqb, ◌⊎◌, Lis
 use Rattle.std.proofs.lemmas.Bool.{cond-false}
 use Rattle.refusals.specs.declared.refusal.Refusal.{Refusal}
 use Rattle.refusals.specs.Numbers.{number}
-use Rattle.refusals.specs.Refused.{lost_at}
 use Rattle.books.specs.Meaning.{Meaning, StepGivesCodes}
 use Rattle.changes.specs.declared.change.Home.{Home}
 use Rattle.journals.specs.declared.place.Place.{Place}
@@ -19,7 +18,7 @@ use Rattle.image.specs.Home.{head_on}
 use Rattle.image.specs.Layout.{lawful_size, room}
 use Rattle.monitor.specs.declared.stage.Stage.{Stage}
 use Rattle.monitor.specs.declared.stage.Stage.TheVariants.{Shut, Open, Dark}
-use Rattle.monitor.specs.Calls.{power_place_of, Acknowledged, LostPower, Makes, Changes}
+use Rattle.monitor.specs.Calls.{lost_in, Acknowledged, LostPower, Makes, Changes}
 use Rattle.monitor.specs.Changing.{change_for}
 use Rattle.monitor.specs.Machine.{Machine, machine, room_of, Refuses}
 use Rattle.histories.specs.Law.{TookEffect}
@@ -128,7 +127,7 @@ module _ (m : Meaning) (gives : StepGivesCodes m) (b : Books) (d : State) (x : R
       )
 
       -- by the place, what may stand
-      lost_by : (place : Place) (t : Machine) → t.stage ≡ Dark → CutChange place q d t.disk → Inv m (by_answer m (certain b) x (Err (lost_at (power_place_of place)))) t
+      lost_by : (place : Place) (t : Machine) → t.stage ≡ Dark → CutChange place q d t.disk → Inv m (by_answer m (certain b) x (Err (lost_in place))) t
       lost_by journal.Staging t s c =
           let o = c.cut k.ready in
           inv_at m (certain b) d t Dark fits o.same_size g s

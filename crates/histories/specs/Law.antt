@@ -1,5 +1,5 @@
 -- The law of every history.
-use Rattle.std.specs.Prelude.{◌≡◌, ◌≢◌, ℕ, ◌+◌, true, List, [], ◌∷◌, ◌++◌, map, length, replicate, Some, Ok, Err, Result, slice_set, IfSome}
+use Rattle.std.specs.Prelude.{◌≡◌, ◌≢◌, ℕ, ◌+◌, ◌≤◌, true, List, [], ◌∷◌, ◌++◌, map, length, replicate, Some, Ok, Err, Result, slice_set, IfSome, None, Option}
 use Rattle.refusals.specs.declared.power_place.PowerPlace.TheVariants.{Starting}
 use Rattle.refusals.specs.declared.refusal.Refusal.{Refusal}
 use Rattle.refusals.specs.Refused.{lost_at}
@@ -14,10 +14,12 @@ use Rattle.carrying.specs.Standing.{Standing, opened, row_of, effect}
 use Rattle.carrying.specs.Carried.{enters, countersigns, carried_all}
 use Rattle.image.specs.Home.{items_on, opening_on, rows_on, records_on}
 use Rattle.monitor.specs.declared.stage.Stage.TheVariants.{Open}
-use Rattle.monitor.specs.Calls.{posting, certification}
 use Rattle.monitor.specs.Machine.{Machine, home_of, room_of}
-use Rattle.histories.specs.Events.{Event, Formatted, Attached, NoteEntered, Countersigned, Certified, Struck, ItemSeen, RecordSeen, History}
-use Rattle.histories.specs.Tally.{Books, Tally, tally}
+use Rattle.calls.specs.Plain.{Attaches}
+use Rattle.histories.specs.declared.answer.Answer.{Answer}
+use Rattle.histories.specs.declared.answer.Answer.TheVariants as answer
+use Rattle.histories.specs.Events.{Called, Plainly, Event, History, begun, then, again, Run, onto}
+use Rattle.histories.specs.Tally.{Books, Tally, tally, change_of}
 
 -- the rows that records give, one after another
 abbrev pub rows_after : List Row → List Record → List Row
@@ -31,9 +33,15 @@ rows_after rows (Strike k ∷ xs) = rows_after (slice_set rows k free) xs
 abbrev pub Entitled : List Row → Asked → ℕ → ℕ → Type 0
 Entitled rows q a b = (covered rows q a ≡ true) × (covered rows q b ≡ true)
 
--- a posting names two different users, each entitled in their role to that procedure on both items
+-- a user who executes, from 1 to 15: user 0 is the custodian, who certifies and never executes
+abbrev pub Executes : ℕ → Type 0
+Executes user = (1 ≤ user) × (user ≤ 15)
+
+-- a posting names two different users who execute, each entitled in their role to that procedure on both items
 pub record TwoPeople (rows : List Row) (p : PostingRecord) : Type 0 where
   pub different : p.enterer ≢ p.countersigner
+  pub enterer_executes : Executes p.enterer
+  pub countersigner_executes : Executes p.countersigner
   pub enterer : Entitled rows (enters p) p.a p.b
   pub countersigner : Entitled rows (countersigns p) p.a p.b
 
@@ -66,26 +74,35 @@ abbrev pub OnlyForPower : Result ℕ Refusal → Type 0
 OnlyForPower (Ok n) = Unit {0}
 OnlyForPower (Err e) = e ≡ lost_at Starting
 
--- what an event owes the tally before it
-abbrev pub Owed : Meaning → Tally → Event → Type 0
-Owed m t (Formatted house roll opening r) = Unit {0}
-Owed m t (Attached r) = OnlyForPower r
-Owed m t (NoteEntered user word note r) = Unit {0}
-Owed m t (Countersigned user word slip r) = TookEffect m t.books (posting slip user) r
-Owed m t (Certified word draft r) = TookEffect m t.books (certification draft) r
-Owed m t (Struck word row r) = TookEffect m t.books (Strike row) r
-Owed m t (ItemSeen item r) = Unit {0}
-Owed m t (RecordSeen number r) = Unit {0}
+-- what a change owes, by its answer; where there is none, nothing is owed
+abbrev pub Effective : Meaning → Books → Option Record → Result ℕ Refusal → Type 0
+Effective m b None r = Unit {0}
+Effective m b (Some x) r = TookEffect m b x r
 
-abbrev pub AllOwed : Meaning → List Event → Type 0
-AllOwed m [] = Unit {0}
-AllOwed m (e ∷ es) = IfSome (tally m es) (λ t. Owed m t e) × AllOwed m es
+-- what a call and its answer owe the tally before them
+abbrev pub Owed : Meaning → Tally → Called → Answer → Type 0
+Owed m t (Plainly Attaches) (answer.Count r) = OnlyForPower r
+Owed m t c (answer.Count r) = Effective m t.books (change_of c) r
+Owed m t _ _ = Unit {0}
 
--- the law: whenever the monitor is open and there is a tally, they agree; and each event gave the tally what it owed
-pub record Law (m : Meaning) (es : List Event) (s : Machine) : Type 0 where
-  pub agrees : s.stage ≡ Open → IfSome (tally m es) (λ t. Agrees m s t.books)
-  pub owed : AllOwed m es
+-- the law of one moment, right after an event that led to the monitor s: the event gave the tally before it, if there was one, what it
+-- owed; and if the monitor is open now and there is a tally, they agree
+pub record LawNow (m : Meaning) (e : Event) (es : List Event) (s : Machine) : Type 0 where
+  pub owed : IfSome (tally m es) (λ t. Owed m t e.call e.answer)
+  pub agrees : s.stage ≡ Open → IfSome (tally m (e ∷ es)) (λ t. Agrees m s t.books)
+
+-- the law of a history: it held at every moment, after each event. A monitor that takes a drive over is shut, and owes nothing yet
+abbrev pub Law : (m : Meaning) {es : List Event} {s : Machine} → History m es s → Type 0
+Law m begun = Unit {0}
+Law m (then {es} {s} {t} {e} h d) = Law m h × LawNow m e es t
+Law m (again h k) = Law m h
 
 -- every history obeys the law, for every book whose step makes its tests in their order and gives codes of 64 bits
 abbrev pub LawHolds : Type 0
-LawHolds = (m : Meaning) → StepTests m → StepGivesCodes m → (es : List Event) (s : Machine) → History m es s → Law m es s
+LawHolds = (m : Meaning) → StepTests m → StepGivesCodes m → (es : List Event) (s : Machine) (h : History m es s) → Law m h
+
+-- these events, the latest first, are a run from one monitor to another; and whatever history led to the first, the law holds of that
+-- history and the run behind it
+pub record Extends (m : Meaning) (s : Machine) (events : List Event) (t : Machine) : Type 0 where
+  pub run : Run m s events t
+  pub law : (es : List Event) (h : History m es s) → Law m (onto h run)

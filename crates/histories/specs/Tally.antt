@@ -1,16 +1,20 @@
 -- The tally: what the books should hold, by the calls' arguments and answers alone.
 use Rattle.std.specs.Prelude.{ℕ, ◌+◌, List, [], ◌∷◌, ◌++◌, length, Some, None, Ok, Err, Option, Result, ◌==◌, if◌then◌else◌}
 use Rattle.std.specs.Option.{option_map}
-use Rattle.refusals.specs.declared.power_place.PowerPlace.TheVariants as power
+use Rattle.refusals.specs.declared.reasons.Reason.TheVariants.{PowerLost}
 use Rattle.refusals.specs.declared.refusal.Refusal.{Refusal}
 use Rattle.refusals.specs.Numbers.{number}
-use Rattle.refusals.specs.Places.{power_place_number}
 use Rattle.books.specs.Meaning.{Meaning}
+use Rattle.journals.specs.declared.place.Place.TheVariants.{Committing, Applying}
+use Rattle.journals.specs.Numbers.{place_number}
 use Rattle.records.specs.declared.record.Record.{Record}
 use Rattle.records.specs.declared.record.Record.TheVariants.{Strike}
 use Rattle.carrying.specs.Standing.{Standing, opened, effect}
 use Rattle.monitor.specs.Calls.{posting, certification}
-use Rattle.histories.specs.Events.{Event, Formatted, Attached, NoteEntered, Countersigned, Certified, Struck, ItemSeen, RecordSeen}
+use Rattle.calls.specs.Plain.{Formats, Attaches, Certifies, Strikes}
+use Rattle.histories.specs.declared.answer.Answer.{Answer}
+use Rattle.histories.specs.declared.answer.Answer.TheVariants as answer
+use Rattle.histories.specs.Events.{Called, Countersigns, Plainly, Event}
 
 -- books as they should be: the opening; what stands, the items, the rows and how many records; and the records in order, one for
 -- each change that stands
@@ -22,6 +26,13 @@ pub record Books : Type 0 where
 -- at format: the opening, 32 free rows and no records
 abbrev pub began : List ℕ → Books
 began opening = record { opening = opening; standing = opened opening; records = [] }
+
+-- the change that a call asks for, if it asks for one, by its record
+abbrev pub change_of : Called → Option Record
+change_of (Countersigns user word slip) = Some (posting slip user)
+change_of (Plainly (Certifies word draft)) = Some (certification draft)
+change_of (Plainly (Strikes word row)) = Some (Strike row)
+change_of _ = None
 
 -- a change that is made: its effect on what stands, and its record behind the others; nothing if the step refuses
 abbrev pub made_to : Books → Record → Option Standing → Books
@@ -45,14 +56,14 @@ in_doubt b x = record { books = b; doubt = Some x }
 -- a change that lost power: at place 3 it is made at once, at place 2 it is in doubt, else it is nothing
 abbrev pub cut_at : Meaning → Tally → Record → ℕ → Tally
 cut_at m t x place =
-    if place == power_place_number power.Applying then record t { books = made m t.books x }
-    else if place == power_place_number power.Committing then in_doubt t.books x
+    if place == place_number Applying then record t { books = made m t.books x }
+    else if place == place_number Committing then in_doubt t.books x
     else t
 
 -- a change by its answer: acknowledged, it is made at once; refused, it is nothing, but for lost power
 abbrev pub by_answer : Meaning → Tally → Record → Result ℕ Refusal → Tally
 by_answer m t x (Ok n) = record t { books = made m t.books x }
-by_answer m t x (Err e) = if number e.reason == 7 then cut_at m t x e.place else t
+by_answer m t x (Err e) = if number e.reason == number PowerLost then cut_at m t x e.place else t
 
 -- the change in doubt is made at the next accepted attach if that answers one record more than the tally holds, and
 -- otherwise never
@@ -67,31 +78,22 @@ attached m t (Err e) = t
 -- format, from whatever tally there was: accepted, it begins anew; cut, there is none; else as it was
 abbrev pub formatted : List ℕ → Result ℕ Refusal → Option Tally → Option Tally
 formatted opening (Ok n) o = Some (certain (began opening))
-formatted opening (Err e) o = if number e.reason == 7 then None else o
+formatted opening (Err e) o = if number e.reason == number PowerLost then None else o
 
--- the tally after one event more
-abbrev pub fed : Meaning → Tally → Event → Tally
-fed m t (Formatted house roll opening r) = t
-fed m t (Attached r) = attached m t r
-fed m t (NoteEntered user word note r) = t
-fed m t (Countersigned user word slip r) = by_answer m t (posting slip user) r
-fed m t (Certified word draft r) = by_answer m t (certification draft) r
-fed m t (Struck word row r) = by_answer m t (Strike row) r
-fed m t (ItemSeen item r) = t
-fed m t (RecordSeen number r) = t
+-- the tally after a call that asked for a change, by its answer; a call that asked for none alters nothing
+abbrev pub changed : Meaning → Option Record → Result ℕ Refusal → Tally → Tally
+changed m None r t = t
+changed m (Some x) r t = by_answer m t x r
 
-abbrev pub fed_if : Meaning → Option Tally → Event → Option Tally
-fed_if m o e = option_map (λ t. fed m t e) o
+-- the tally after one event more: format begins it, attach settles what is in doubt, and all else is a change or nothing
+abbrev pub fed : Meaning → Option Tally → Called → Answer → Option Tally
+fed m o (Plainly (Formats house roll opening)) (answer.Count r) = formatted opening r o
+fed m o (Plainly Attaches) (answer.Count r) = option_map (λ t. attached m t r) o
+fed m o c (answer.Count r) = option_map (changed m (change_of c) r) o
+fed m o _ _ = o
 
 abbrev pub feed : Meaning → Option Tally → Event → Option Tally
-feed m o (Formatted house roll opening r) = formatted opening r o
-feed m o (Attached r) = fed_if m o (Attached r)
-feed m o (NoteEntered user word note r) = fed_if m o (NoteEntered user word note r)
-feed m o (Countersigned user word slip r) = fed_if m o (Countersigned user word slip r)
-feed m o (Certified word draft r) = fed_if m o (Certified word draft r)
-feed m o (Struck word row r) = fed_if m o (Struck word row r)
-feed m o (ItemSeen item r) = fed_if m o (ItemSeen item r)
-feed m o (RecordSeen number r) = fed_if m o (RecordSeen number r)
+feed m o e = fed m o e.call e.answer
 
 -- the tally of all that happened, the latest event first: none before an accepted format, none after one that was cut
 abbrev pub tally : Meaning → List Event → Option Tally

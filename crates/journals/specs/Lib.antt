@@ -1,3 +1,4 @@
+pub mod Numbers
 pub mod Redo
 pub mod State
 pub mod Steps

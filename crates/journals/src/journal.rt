@@ -2,6 +2,7 @@ ghost use Rattle.std.specs.Prelude.{◌≡◌, ◌<◌, ◌≤◌, true, IsOk, I
 ghost use Rattle.drives.specs.Disk.{size as disk_size};
 ghost use Rattle.changes.specs.Commit.{count_of};
 ghost use Rattle.changes.specs.Homes.{last, IsChange};
+ghost use Rattle.journals.specs.Numbers.{finish_fault_reason};
 ghost use Rattle.journals.specs.Redo.{commit_block, named};
 ghost use Rattle.journals.specs.State.{size as type_size, IsOn, IsCertain};
 ghost use Rattle.journals.specs.Steps.{MakesSteps};
@@ -16,6 +17,7 @@ use crate::steps;
 use arrayvec::ArrayVec;
 use changes::{Change, Home, is_lawful, named_block};
 use drives::Drive;
+use refusals::Reason;
 use std::marker::Model;
 
 /// Why a change was not made.
@@ -25,7 +27,7 @@ pub enum ChangeFault {
     Off,
     /// A block of the change is beyond the drive. Nothing was touched.
     Beyond,
-    /// Power was lost, at a place that says what may stand.
+    /// Power was lost, at a place that says what may stand: 7, and the place's number.
     Cut(Place),
 }
 
@@ -38,15 +40,27 @@ impl From<Place> for ChangeFault {
     }
 }
 
-/// Why finishing did not end.
+/// Why finishing did not end, with the number that people see where it is handed on.
 #[derive(Clone, Copy, PartialEq, Eq, Debug)]
 pub enum FinishFault {
-    /// There is no power. Nothing was touched.
+    /// There is no power: 7. Nothing was touched.
     Off,
-    /// The commit block is not lawful. Nothing was touched.
+    /// The commit block is not lawful: 19. Nothing was touched.
     Unlawful,
-    /// Power was lost.
+    /// Power was lost: 7.
     PowerLost,
+}
+
+/// The reason that people see.
+impl From<FinishFault> for Reason {
+    ghost from_gives = { λ fault reason. reason ≡ finish_fault_reason fault };
+
+    fn from(fault: FinishFault) -> Reason {
+        match fault {
+            FinishFault::Off | FinishFault::PowerLost => Reason::PowerLost,
+            FinishFault::Unlawful => Reason::BadCommitBlock,
+        }
+    }
 }
 
 /// A journal, which owns its drive: what it means is what the drive means.

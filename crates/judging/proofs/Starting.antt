@@ -81,12 +81,12 @@ module _ (m : Meaning) (d p e : State) (fits : lawful_size (size d) ≡ true) (o
             inspected r (finishing_cut a lawful (f.met on.on wide lawful).1))
       ]
 
-  inspect_unfinished : (r : Result ℕ Refusal) (x : FinishFault) → Finishes p (Err x) e → r ≡ unfinished_for x → PoweredOn m d r e
+  inspect_unfinished : (r : Result ℕ Refusal) (x : FinishFault) → Finishes p (Err x) e → r ≡ Err (unfinished_for x) → PoweredOn m d r e
   inspect_unfinished r fault.Off f a = inspect_lost r fault.Off (λ q. (let z : ◌≡◌ {A = ℕ} 0 1 = cc in omega arith)) f a
   inspect_unfinished r fault.Unlawful f a = inspect_unlawful r f a
   inspect_unfinished r fault.PowerLost f a = inspect_lost r fault.PowerLost (λ q. (let z : ◌≡◌ {A = ℕ} 0 1 = cc in omega arith)) f a
 
   -- finishing did not end, and the answer says so
-  pub inspect_refused : (f : Result (Unit {0}) FinishFault) (r : Result ℕ Refusal) → Finishes p f e → MatchResult f (λ _. ⊥) (λ x. r ≡ unfinished_for x) → PoweredOn m d r e
+  pub inspect_refused : (f : Result (Unit {0}) FinishFault) (r : Result ℕ Refusal) → Finishes p f e → MatchResult f (λ _. ⊥) (λ x. r ≡ Err (unfinished_for x)) → PoweredOn m d r e
   inspect_refused (Ok x) r f h = absurd h
   inspect_refused (Err x) r f h = inspect_unfinished r x f h

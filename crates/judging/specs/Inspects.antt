@@ -1,24 +1,35 @@
 -- What an inspection makes of a drive: d is the drive before, e after, and p what the power call left between them.
 use Rattle.std.specs.Prelude.{◌≡◌, ℕ, true, false, Err, Result}
 use Rattle.refusals.specs.declared.power_place.PowerPlace.TheVariants.{Starting}
-use Rattle.refusals.specs.declared.reasons.Reason.TheVariants.{BadSize, BadCommitBlock}
+use Rattle.refusals.specs.declared.reasons.Reason.TheVariants.{BadSize}
 use Rattle.refusals.specs.declared.refusal.Refusal.{Refusal}
+use Rattle.refusals.specs.Places.{power_place_number}
 use Rattle.refusals.specs.Refused.{refused, lost_at}
 use Rattle.books.specs.Meaning.{Meaning}
 use Rattle.changes.specs.Commit.{Lawful}
+use Rattle.journals.specs.declared.fault.Fault.{Fault}
 use Rattle.journals.specs.declared.journal.FinishFault.{FinishFault}
 use Rattle.journals.specs.declared.journal.FinishFault.TheVariants as fault
+use Rattle.journals.specs.Numbers.{fault_reason, finish_fault_reason}
 use Rattle.journals.specs.Redo.{commit_block}
 use Rattle.journals.specs.State.{State, blocks, size}
 use Rattle.journals.specs.Outcomes.{TurnedOn, StaysOff, Finished, CutFinishing}
 use Rattle.image.specs.Layout.{lawful_size}
 use Rattle.image.specs.Verdict.{verdict}
 
+-- the refusal where power was not turned on
+abbrev pub unpowered_for : Fault → Refusal
+unpowered_for f = record { reason = fault_reason f; place = power_place_number Starting }
+
+-- the place of the refusal where finishing did not end: a commit block has none
+abbrev pub unfinished_place : FinishFault → ℕ
+unfinished_place fault.Off = power_place_number Starting
+unfinished_place fault.Unlawful = 0
+unfinished_place fault.PowerLost = power_place_number Starting
+
 -- the refusal where finishing did not end
-abbrev pub unfinished_for : FinishFault → Result ℕ Refusal
-unfinished_for fault.Off = Err (lost_at Starting)
-unfinished_for fault.Unlawful = refused BadCommitBlock 0
-unfinished_for fault.PowerLost = Err (lost_at Starting)
+abbrev pub unfinished_for : FinishFault → Refusal
+unfinished_for f = record { reason = finish_fault_reason f; place = unfinished_place f }
 
 -- how an inspection went on, once power was on
 pub data WentOn (m : Meaning) (p : State) (r : Result ℕ Refusal) (e : State) : Type 0 where

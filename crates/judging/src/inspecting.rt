@@ -1,23 +1,31 @@
-ghost use Rattle.std.specs.Prelude.{◌≡◌, true, Err};
+ghost use Rattle.std.specs.Prelude.{◌≡◌, true};
 ghost use Rattle.journals.specs.State.{IsCertain, size as size-of};
 ghost use Rattle.image.specs.Layout.{lawful_size};
-ghost use Rattle.judging.specs.Inspects.{Inspects, PoweredOn, unfinished_for};
+ghost use Rattle.judging.specs.Inspects.{Inspects, PoweredOn, unpowered_for, unfinished_for};
 
-use crate::judge::{judge, power_lost};
+use crate::judge::judge;
 use books::Book;
 use drives::Drive;
 use image::{Reader, is_lawful_size};
-use journals::{FinishFault, Journal};
-use refusals::{Reason, Refusal};
+use journals::{Fault, FinishFault, Journal};
+use refusals::{PowerPlace, Reason, Refusal};
+
+/// The refusal where power was not turned on.
+fn unpowered(fault: Fault) -> Refusal
+    ensures value { result ≡ unpowered_for fault }
+{
+    Refusal::at(fault.into(), PowerPlace::Starting.into())
+}
 
 /// The refusal where finishing did not end.
 fn unfinished(fault: FinishFault) -> Refusal
-    ensures value { Err result ≡ unfinished_for fault }
+    ensures value { result ≡ unfinished_for fault }
 {
-    match fault {
-        FinishFault::Unlawful => Refusal::at(Reason::BadCommitBlock, 0),
-        FinishFault::Off | FinishFault::PowerLost => power_lost(),
-    }
+    let place = match fault {
+        FinishFault::Unlawful => 0,
+        FinishFault::Off | FinishFault::PowerLost => PowerPlace::Starting.into(),
+    };
+    Refusal::at(fault.into(), place)
 }
 
 /// Turns power on, finishes what was cut, and judges what stands then: the record count, or the first refusal that the
@@ -31,7 +39,7 @@ pub fn inspect<D: Drive, B: Book>(journal: &mut Journal<D>, book: &B) -> Result<
     if !is_lawful_size(size) {
         return Err(Refusal::at(Reason::BadSize, size));
     }
-    journal.power().map_err(|_| power_lost())?;
+    journal.power().map_err(unpowered)?;
     journal.finish().map_err(unfinished)?;
     judge(&Reader { journal }, book)
 }

@@ -1,6 +1,4 @@
 ghost use Rattle.std.specs.Prelude.{◌≡◌, ◌≤◌};
-ghost use Rattle.refusals.specs.declared.power_place.PowerPlace.TheVariants.{Starting};
-ghost use Rattle.refusals.specs.Refused.{lost_at};
 ghost use Rattle.journals.specs.State.{size, home_of};
 ghost use Rattle.carrying.specs.Standing.{standing_of};
 ghost use Rattle.image.specs.Layout.{room as room-on};
@@ -12,14 +10,7 @@ use books::Book;
 use carrying::Held;
 use drives::Drive;
 use image::{Part, Reader, codes_blocks, first_differing, rows_blocks};
-use refusals::{PowerPlace, Reason, Refusal};
-
-/// Power was lost while the drive was started.
-pub(crate) fn power_lost() -> Refusal
-    ensures value { result ≡ lost_at Starting }
-{
-    Refusal::power_lost(PowerPlace::Starting)
-}
+use refusals::{Reason, Refusal};
 
 /// Carries out the records, from the first on.
 fn replay<D: Drive, B: Book>(

@@ -1,4 +1,4 @@
--- The ledger's step keeps a valid list valid: what a gains, b loses.
+-- A valid list of the ledger has 64 codes, and its step keeps it valid: what a gains, b loses.
 use Rattle.std.specs.Prelude.{◌≡◌, ℕ, ◌<◌, Bool, true, false, List, map, length, get_or, set, ℤ, pos, negsuc, ◌+ℤ◌, neg_ℤ, Some, None, Ok, Option, FitsSigned, ◌==◌, ◌≢◌, slice_index_or, slice_set, refl, if◌then◌else◌}
 use Rattle.std.proofs.Common.{sym, ap, ◌∙◌, arith}
 use Rattle.std.specs.Int.{w64}
@@ -8,7 +8,7 @@ use Rattle.std.proofs.lemmas.Bool.{and_parts, and_from, eq-eqb, eqb-true}
 use Rattle.std.specs.List.{list_all}
 use Rattle.lists.specs.Answers.{passed}
 use Rattle.lists.specs.Elements.{all_set}
-use Rattle.books.specs.Meaning.{StepKeepsValid, amount_ok}
+use Rattle.books.specs.Meaning.{ValidHas64Codes, StepKeepsValid, amount_ok}
 use Rattle.ledger.specs.Ledger.{ledger, ledger_takes, balance, balance_code, balance_stays, within, is_zero, total, code_changed, both}
 use Rattle.ledger.specs.Totals.{total_set, within_bounds}
 
@@ -47,6 +47,9 @@ still_zero zs a b x y la lb ne e z =
     let s : total (slice_set (slice_set zs a x) b y) ≡ total zs = omega (arith, ints, p, q, r) in
     ap is_zero s ∙ z
 
+pub ledger_has_64_codes : ValidHas64Codes ledger
+ledger_has_64_codes cs v = eqb-true (length cs) 64 (and_parts (length cs == 64) _ v).0
+
 pub ledger_keeps : StepKeepsValid ledger
 ledger_keeps cs d x y la lb ne v s =
     let a : ℕ = d.a in
@@ -62,7 +65,7 @@ ledger_keeps cs d x y la lb ne v s =
     let cy = changed_by (balance_stays (balance Y) less) (balance Y) less y refl given.1 in
     let vl = and_parts (length cs == 64) _ v in
     let vr = and_parts (list_all within (map balance cs)) (is_zero (total (map balance cs))) vl.1 in
-    let len : length cs ≡ 64 = eqb-true (length cs) 64 vl.0 in
+    let len : length cs ≡ 64 = ledger_has_64_codes cs v in
     let za : a < length (map balance cs) = simp length-map (omega arith) in
     let zb : b < length (map balance cs) = simp length-map (omega arith) in
     let ga : get_or (map balance cs) a (pos 0) ≡ balance X = get_or-map balance cs a 0 (pos 0) (omega arith) in

@@ -7,6 +7,8 @@ use Rattle.refusals.specs.declared.step_place.StepPlace.{StepPlace}
 use Rattle.refusals.specs.declared.step_place.StepPlace.TheVariants.{Items, Amount, Values}
 use Rattle.books.specs.declared.draft.Draft.{Draft}
 use Rattle.books.specs.Meaning.{Meaning, amount_ok}
+use Rattle.ledger.specs.Procedures.{number}
+use Rattle.ledger.specs.declared.Procedure.TheVariants.{Charge, Receipt, Shift}
 
 -- the balance that a code stands for: two's complement at 64 bits
 abbrev pub balance : ℕ → ℤ
@@ -43,12 +45,12 @@ depositor i = nat_le 8 i && nat_lt i 64
 abbrev pub of_one_side : ℕ → ℕ → Bool
 of_one_side i j = (own i && own j) || (depositor i && depositor j)
 
--- charge (1): a is a depositor's, b the house's; receipt (2): the reverse; shift (3): two items of one side
+-- charge: a is a depositor's, b the house's; receipt: the reverse; shift: two items of one side
 abbrev pub ledger_takes : Draft → Bool
 ledger_takes d =
-    if d.procedure == 1 then depositor d.a && own d.b
-    else if d.procedure == 2 then own d.a && depositor d.b
-    else if d.procedure == 3 then not (d.a == d.b) && of_one_side d.a d.b
+    if d.procedure == number Charge then depositor d.a && own d.b
+    else if d.procedure == number Receipt then own d.a && depositor d.b
+    else if d.procedure == number Shift then not (d.a == d.b) && of_one_side d.a d.b
     else false
 
 -- a balance lies within its bounds before and after a change

@@ -1,5 +1,6 @@
-pub mod Ledger
 pub mod Procedures
+pub mod Ledger
+pub mod Numbered
 pub mod Stepping
 pub mod Keeping
 pub mod Totals

@@ -1,9 +1,5 @@
--- The ledger's procedures and their numbers.
-use Rattle.std.specs.Prelude.{◌≡◌, ℕ, true, false, Result, MatchResult}
-use Rattle.refusals.specs.declared.step_place.StepPlace.{StepPlace}
-use Rattle.refusals.specs.declared.step_place.StepPlace.TheVariants.{Items}
-use Rattle.books.specs.Meaning.{has_procedure}
-use Rattle.ledger.specs.Ledger.{ledger}
+-- The ledger's procedures by their numbers.
+use Rattle.std.specs.Prelude.{ℕ}
 use Rattle.ledger.specs.declared.Procedure.{Procedure}
 use Rattle.ledger.specs.declared.Procedure.TheVariants.{Charge, Receipt, Shift}
 
@@ -11,10 +7,3 @@ abbrev pub number : Procedure → ℕ
 number Charge = 1
 number Receipt = 2
 number Shift = 3
-
--- the procedure of a number; any other number is refused as step refuses it
-abbrev pub Numbered : ℕ → Result Procedure StepPlace → Type 0
-Numbered n r =
-    MatchResult r
-    (λ p. (number p ≡ n) × (has_procedure ledger n ≡ true))
-    (λ e. (e ≡ Items) × (has_procedure ledger n ≡ false))

@@ -6,8 +6,8 @@ use Rattle.std.proofs.lemmas.Bool.{and_parts}
 use Rattle.std.proofs.lemmas.Bool.Decides.{nat_tests}
 use Rattle.lists.specs.Answers.{passed}
 use Rattle.books.specs.declared.draft.Draft.{Draft}
-use Rattle.books.specs.Meaning.{StepTests, StepGivesCodes, amount_ok, has_procedure}
-use Rattle.books.specs.Testing.{ByValues, tests_of_step}
+use Rattle.books.specs.Meaning.{StepTests, AmountTestIsCeiling, StepGivesCodes, amount_ok, has_procedure}
+use Rattle.books.specs.Testing.{ByValues, TestsInOrder, tests_of_step, amount_test_of_step}
 use Rattle.ledger.specs.Ledger.{ledger, ledger_takes, balance, balance_code, balance_stays, within, code_changed, both}
 use Rattle.ledger.specs.Keeping.{both_given}
 use Rattle.ledger.specs.Totals.{within_bounds}
@@ -22,11 +22,22 @@ both_by_values (Some v) (Some w) = tt
 wordless : (d : Draft) → has_procedure ledger d.procedure ≡ false → ledger_takes d ≡ false
 wordless d h = grind (arith, nat_tests)
 
+ledger_in_order : TestsInOrder ledger
+ledger_in_order =
+    record {
+      takes = ledger_takes;
+      given = λ d codes. both (code_changed codes.0 (pos d.amount)) (code_changed codes.1 (neg_ℤ (pos d.amount)));
+      step = λ d codes. refl;
+      by_values = λ d codes. both_by_values (code_changed codes.0 (pos d.amount)) (code_changed codes.1 (neg_ℤ (pos d.amount)));
+      any_amount = λ d n. refl;
+      wordless = wordless;
+    }
+
 pub ledger_tests : StepTests ledger
-ledger_tests =
-    tests_of_step ledger ledger_takes (λ d codes. both (code_changed codes.0 (pos d.amount)) (code_changed codes.1 (neg_ℤ (pos d.amount))))
-    (λ d codes. refl) (λ d codes. both_by_values (code_changed codes.0 (pos d.amount)) (code_changed codes.1 (neg_ℤ (pos d.amount))))
-    (λ d n. refl) wordless
+ledger_tests = tests_of_step ledger ledger_in_order
+
+pub ledger_amounts : AmountTestIsCeiling ledger
+ledger_amounts = amount_test_of_step ledger ledger_in_order
 
 -- the code of a balance within its bounds is of 64 bits
 code_fits : (z : ℤ) → within z ≡ true → balance_code z < 2 ^ 64

@@ -1,11 +1,11 @@
 // The ledger, the book of money: signed balances in pence that sum to zero. `docs/BOOKS.md` has its rules.
 #![tactic(auto)]
 
-ghost use Rattle.std.specs.Prelude.{◌≡◌, ◌≤◌, Some, map, length};
-ghost use Rattle.ledger.specs.Ledger.{ledger, ledger_takes, own, depositor, balance, within, total, code_changed};
-ghost use Rattle.std.specs.List.{list_all};
+ghost use Rattle.std.specs.Prelude.{◌≡◌, Some};
+ghost use Rattle.ledger.specs.Ledger.{ledger, ledger_takes, own, depositor, balance, within, code_changed};
+ghost use Rattle.books.specs.Meaning.{AmountTestIsCeiling};
 ghost use Rattle.books.specs.Words.{word_of};
-ghost use Rattle.ledger.specs.Keeping.{ledger_keeps};
+ghost use Rattle.ledger.specs.Keeping.{ledger_has_64_codes, ledger_keeps};
 ghost use Rattle.ledger.specs.Stepping.{ledger_tests, ledger_gives_codes};
 ghost use Rattle.std.proofs.Common.{rules};
 
@@ -42,7 +42,7 @@ const PROCEDURES: u64 = Procedure::Shift as u64;
 // Each book has an enum and a `TryFrom` of its own: a trait over both would be as long as the two.
 /// The procedure of a number. The step refuses any other number as it refuses items that a procedure does not take.
 impl TryFrom<u64> for Procedure {
-    ghost use Rattle.ledger.specs.Procedures.{Numbered};
+    ghost use Rattle.ledger.specs.Numbered.{Numbered};
 
     type Error = StepPlace;
 
@@ -110,26 +110,6 @@ fn is_within(pence: i64) -> bool
     (-FURTHEST..=FURTHEST).contains(&pence)
 }
 
-/// Whether every balance lies within its bounds.
-fn are_within(codes: &[u64]) -> bool
-    ensures value { result ≡ list_all within (map balance codes.now) }
-{
-    codes.iter().all(|code| is_within(code.cast_signed()))
-}
-
-/// The sum of the balances. It is taken at 128 bits, so that it fits whatever they are.
-fn total_of(codes: &[u64]) -> i128
-    requires few { length codes.now ≤ 64 }
-    ensures value { result ≡ total (map balance codes.now) }
-{
-    // No `sum()`: of signed numbers it leaves the bound open.
-    let mut sum = 0;
-    for code in codes {
-        sum += i128::from(code.cast_signed());
-    }
-    sum
-}
-
 /// The code of a balance after a change, unless it lies outside its bounds before or after.
 fn changed(code: u64, change: i64) -> Option<u64>
     ensures value { result ≡ code_changed code change }
@@ -137,6 +117,13 @@ fn changed(code: u64, change: i64) -> Option<u64>
     let before = code.cast_signed();
     let after = before.checked_add(change)?;
     (is_within(before) && is_within(after)).then_some(after.cast_unsigned())
+}
+
+/// A theorem: where it takes the items, the step refuses at place 2 exactly the amounts outside 1 to the ceiling.
+pub fn refuses_amounts_outside_ceiling() -> bool
+    ensures holds { AmountTestIsCeiling ledger }
+{
+    true
 }
 
 impl Book for Ledger {
@@ -166,6 +153,8 @@ impl Book for Ledger {
 
     ghost proper_words = { Prim.search rules };
 
+    ghost valid_has_64_codes = { ledger_has_64_codes };
+
     ghost step_tests = { ledger_tests };
 
     ghost step_gives_codes = { ledger_gives_codes };
@@ -193,7 +182,19 @@ impl Book for Ledger {
     }
 
     fn verify(&self, codes: &[u64]) -> bool {
-        codes.len() == 64 && are_within(codes) && total_of(codes) == 0
+        if codes.len() != 64 {
+            return false;
+        }
+        // Each balance is tested before it is added, so that the sum fits.
+        let mut sum: i64 = 0;
+        for code in codes {
+            let pence = code.cast_signed();
+            if !is_within(pence) {
+                return false;
+            }
+            sum += pence;
+        }
+        sum == 0
     }
 
     fn step(&self, draft: Draft, codes: (u64, u64)) -> Result<(u64, u64), StepPlace> {
@@ -204,8 +205,9 @@ impl Book for Ledger {
             return Err(StepPlace::Amount);
         }
         let change = draft.amount as i64;
-        let more = changed(codes.0, change).ok_or(StepPlace::Values)?;
-        let less = changed(codes.1, -change).ok_or(StepPlace::Values)?;
+        let (code_a, code_b) = codes;
+        let more = changed(code_a, change).ok_or(StepPlace::Values)?;
+        let less = changed(code_b, -change).ok_or(StepPlace::Values)?;
         Ok((more, less))
     }
 }

@@ -14,7 +14,7 @@ use Rattle.records.specs.declared.record.Record.{Record}
 use Rattle.records.specs.declared.record.Record.TheVariants.{Posting, Certification, Strike}
 use Rattle.layout.specs.declared.head.Head.{Head}
 use Rattle.layout.specs.Head.{head_form, fields_of_head}
-use Rattle.carrying.specs.Carried.{posted, posting_of}
+use Rattle.carrying.specs.Carried.{posted}
 use Rattle.carrying.specs.declared.row_draft.RowDraft.{RowDraft}
 use Rattle.carrying.specs.Rows.{certified, struck}
 use Rattle.carrying.specs.Standing.{Standing}
@@ -22,12 +22,12 @@ use Rattle.image.specs.Home.{at, head_on, house_on, count_on, standing_on, stand
 use Rattle.image.specs.Laws.{at_home}
 use Rattle.image.specs.Layout.{lawful_size, room}
 use Rattle.monitor.specs.declared.entered.Entered.{Entered}
-use Rattle.monitor.specs.declared.stage.CallKind.TheVariants.{Working}
 use Rattle.monitor.specs.Asking.{known}
 use Rattle.monitor.specs.Calls.{Makes, Changes, own_slip, posting, certification, countersigned, certifying, striking}
 use Rattle.monitor.specs.Changing.{counted, changed_homes, record_home, change_for, wanted}
 use Rattle.monitor.specs.Machine.{Machine, home_of, room_of, Steady}
-use Rattle.monitor.specs.Stages.{admitted}
+use Rattle.monitor.specs.Slips.{posting_by}
+use Rattle.monitor.specs.Stages.{may_work}
 use Rattle.monitor.proofs.Tests.{after_test}
 
 -- a record that is to be carried out on what a drive d holds, as it was read under its head k
@@ -64,33 +64,33 @@ module _
 pub countersigned_so_far :
     (m : Meaning) (s : Machine) (user : ℕ) (word : List ℕ) (slip read : Entered) (d : journal.State) (k : Head)
     → d ≡ s.disk → k ≡ head_on (journal.home_of d) → read ≡ slip
-    → Ok tt ≡ admitted s.stage Working → Ok tt ≡ own_slip m k.house read → Ok tt ≡ known (journal.home_of d) user word
+    → Ok tt ≡ may_work s.stage → Ok tt ≡ own_slip m k.house read → Ok tt ≡ known (journal.home_of d) user word
     → countersigned m s user word slip
-    ≡ wanted (home_of s) (posting slip user) (posted m (room_of s) (standing_on (home_of s)) (posting_of slip.numbers slip.enterer user))
+    ≡ wanted (home_of s) (posting slip user) (posted m (room_of s) (standing_on (home_of s)) (posting_by slip user))
 countersigned_so_far m s user word slip read d k same head is p q r =
     let own : Ok tt ≡ own_slip m (house_on (home_of s)) slip =
     q
     ∙ ap (λ (z : Head). own_slip m z.house read) (head ∙ ap (λ (z : journal.State). head_on (journal.home_of z)) same)
     ∙ ap (own_slip m (house_on (home_of s))) is in
     let knows : Ok tt ≡ known (home_of s) user word = r ∙ ap (λ (z : journal.State). known (journal.home_of z) user word) same in
-    after_test (admitted s.stage Working) _ p ∙ after_test (own_slip m (house_on (home_of s)) slip) _ own ∙ after_test (known (home_of s) user word) _ knows
+    after_test (may_work s.stage) _ p ∙ after_test (own_slip m (house_on (home_of s)) slip) _ own ∙ after_test (known (home_of s) user word) _ knows
 
 -- and so are a certification and a strike that passed the custodian's test
 pub certifying_so_far :
     (m : Meaning) (s : Machine) (word : List ℕ) (draft : RowDraft) (d : journal.State) → d ≡ s.disk
-    → Ok tt ≡ admitted s.stage Working → Ok tt ≡ known (journal.home_of d) 0 word
+    → Ok tt ≡ may_work s.stage → Ok tt ≡ known (journal.home_of d) 0 word
     → certifying m s word draft ≡ wanted (home_of s) (certification draft) (certified m (room_of s) (standing_on (home_of s)) draft)
 certifying_so_far m s word draft d same p r =
     let knows : Ok tt ≡ known (home_of s) 0 word = r ∙ ap (λ (z : journal.State). known (journal.home_of z) 0 word) same in
-    after_test (admitted s.stage Working) _ p ∙ after_test (known (home_of s) 0 word) _ knows
+    after_test (may_work s.stage) _ p ∙ after_test (known (home_of s) 0 word) _ knows
 
 pub striking_so_far :
     (s : Machine) (word : List ℕ) (row : ℕ) (d : journal.State) → d ≡ s.disk
-    → Ok tt ≡ admitted s.stage Working → Ok tt ≡ known (journal.home_of d) 0 word
+    → Ok tt ≡ may_work s.stage → Ok tt ≡ known (journal.home_of d) 0 word
     → striking s word row ≡ wanted (home_of s) (Strike row) (struck (room_of s) (standing_on (home_of s)) row)
 striking_so_far s word row d same p r =
     let knows : Ok tt ≡ known (home_of s) 0 word = r ∙ ap (λ (z : journal.State). known (journal.home_of z) 0 word) same in
-    after_test (admitted s.stage Working) _ p ∙ after_test (known (home_of s) 0 word) _ knows
+    after_test (may_work s.stage) _ p ∙ after_test (known (home_of s) 0 word) _ knows
 
 -- behind the head, no block of a change is block 7
 items_miss : (x y : Home) (t : Bool) → x.number ≢ 7 → y.number ≢ 7 → Misses 7 (if t then x ∷ [] else x ∷ (y ∷ []))

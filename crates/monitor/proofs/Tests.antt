@@ -14,10 +14,9 @@ use Rattle.carrying.specs.Standing.{Standing}
 use Rattle.journals.specs.State as journal
 use Rattle.image.specs.Home.{count_on, record_on}
 use Rattle.image.specs.Reading.{code_on, record_within}
-use Rattle.monitor.specs.declared.stage.CallKind.TheVariants.{Working}
 use Rattle.monitor.specs.Asking.{known, own_note, may_enter, slip_of, entered, found, is_counted, item_seen, record_seen}
 use Rattle.monitor.specs.Machine.{Machine, home_of}
-use Rattle.monitor.specs.Stages.{admitted}
+use Rattle.monitor.specs.Stages.{may_work}
 use Rattle.std.specs.Prelude.{List, not}
 
 -- a test that passed leaves what follows it
@@ -38,10 +37,10 @@ module _ (m : Meaning) (s : Machine) (user : ℕ) (word : List ℕ) (note : Numb
   -- enter's tests on the drive that was read, up to what the rows say
   pub entered_so_far :
       (d : journal.State) (n : Numbers) (r : Result (Unit {0}) Refusal) → d ≡ s.disk → n ≡ note
-      → Ok tt ≡ admitted s.stage Working → Ok tt ≡ own_note m n → Ok tt ≡ known (journal.home_of d) user word → r ≡ may_enter (journal.home_of d) user n
+      → Ok tt ≡ may_work s.stage → Ok tt ≡ own_note m n → Ok tt ≡ known (journal.home_of d) user word → r ≡ may_enter (journal.home_of d) user n
       → entered m s user word note ≡ (r >> Ok (slip_of (journal.home_of d) user n))
   entered_so_far d n r same noted p q k e =
-      after_test (admitted s.stage Working) _ p
+      after_test (may_work s.stage) _ p
       ∙ ap (λ z. own_note m z >> (known (home_of s) user word >> (may_enter (home_of s) user z >> Ok (slip_of (home_of s) user z)))) (sym noted)
       ∙ after_test (own_note m n) _ q
       ∙ ap (λ z. known (journal.home_of z) user word >> (may_enter (journal.home_of z) user n >> Ok (slip_of (journal.home_of z) user n))) (sym same)
@@ -53,12 +52,12 @@ found_is : {X : Type 0} (k : ℕ) (o : Option X) (e : Refusal) → e ≡ record 
 found_is k None e q = ap Err q
 found_is k (Some x) e q = refl
 
-module _ (s : Machine) (d : journal.State) (same : d ≡ s.disk) (admits : Ok tt ≡ admitted s.stage Working) where
+module _ (s : Machine) (d : journal.State) (same : d ≡ s.disk) (admits : Ok tt ≡ may_work s.stage) where
   pub item_found : (i : ℕ) (o : Option ℕ) (e : Refusal) → o ≡ code_on (journal.home_of d) i → e ≡ record { reason = NoSuchEntry; place = i } → ok_or o e ≡ item_seen s i
   item_found i o e f q =
       found_is i o e q
       ∙ ap (found i) (f ∙ ap (λ z. code_on (journal.home_of z) i) same)
-      ∙ sym (after_test (admitted s.stage Working) _ admits)
+      ∙ sym (after_test (may_work s.stage) _ admits)
 
   -- a record of a number that is counted
   pub record_found :
@@ -72,4 +71,4 @@ module _ (s : Machine) (d : journal.State) (same : d ≡ s.disk) (admits : Ok tt
       ∙ ap (found k) is
       ∙ sym (after_test (is_counted k (count_on h)) _ passed)
       ∙ ap (λ z. is_counted k (count_on (journal.home_of z)) >> found k (record_on (journal.home_of z) k)) same
-      ∙ sym (after_test (admitted s.stage Working) _ admits)
+      ∙ sym (after_test (may_work s.stage) _ admits)

@@ -1,19 +1,17 @@
 -- What each call that changes the drive makes of a monitor: s is the monitor before, t after.
 use Rattle.std.specs.Prelude.{◌≡◌, ℕ, ◌+◌, ◌^◌, ◌<◌, not, ◌&&◌, List, Ok, Err, Result, MatchResult, ◌==◌, if◌then◌else◌}
-use Rattle.refusals.specs.declared.power_place.PowerPlace.{PowerPlace}
-use Rattle.refusals.specs.declared.power_place.PowerPlace.TheVariants as power
-use Rattle.refusals.specs.declared.reasons.Reason.TheVariants.{Foreign}
+use Rattle.refusals.specs.declared.reasons.Reason.TheVariants.{Foreign, PowerLost}
 use Rattle.refusals.specs.declared.refusal.Refusal.{Refusal}
-use Rattle.refusals.specs.Refused.{refused, lost_at, ◌>>◌}
+use Rattle.refusals.specs.Refused.{refused, ◌>>◌}
 use Rattle.books.specs.Meaning.{Meaning}
 use Rattle.notes.specs.Notes.{IsNote}
 use Rattle.changes.specs.declared.change.Home.{Home}
 use Rattle.journals.specs.declared.place.Place.{Place}
-use Rattle.journals.specs.declared.place.Place.TheVariants as journal
+use Rattle.journals.specs.Numbers.{place_number}
 use Rattle.journals.specs.Outcomes.{Made, CutChange}
 use Rattle.records.specs.declared.record.Record.{Record}
 use Rattle.records.specs.declared.record.Record.TheVariants.{Posting, Certification, Strike}
-use Rattle.carrying.specs.Carried.{posted, posting_of}
+use Rattle.carrying.specs.Carried.{posted}
 use Rattle.carrying.specs.declared.row_draft.RowDraft.{RowDraft}
 use Rattle.carrying.specs.Rows.{certified, struck}
 use Rattle.image.specs.Home.{house_on, count_on, standing_on}
@@ -22,13 +20,12 @@ use Rattle.monitor.specs.declared.stage.Stage.TheVariants.{Open, Dark}
 use Rattle.monitor.specs.Asking.{known}
 use Rattle.monitor.specs.Changing.{wanted}
 use Rattle.monitor.specs.Machine.{Machine, home_of, room_of, Refuses}
+use Rattle.monitor.specs.Slips.{posting_by}
 use Rattle.monitor.specs.Stages.{may_work}
 
--- the place that people see of where a change lost power
-abbrev pub power_place_of : Place → PowerPlace
-power_place_of journal.Staging = power.Staging
-power_place_of journal.Committing = power.Committing
-power_place_of journal.Applying = power.Applying
+-- power was lost in a change, at a place of the journal's (7)
+abbrev pub lost_in : Place → Refusal
+lost_in place = record { reason = PowerLost; place = place_number place }
 
 -- a change that was made: the answer is the record count, and the change stands alone
 pub record Acknowledged (homes : List Home) (s : Machine) (n : ℕ) (t : Machine) : Type 0 where
@@ -39,7 +36,7 @@ pub record Acknowledged (homes : List Home) (s : Machine) (n : ℕ) (t : Machine
 -- a change that lost power: the place says how far it had come, and the monitor is dark
 pub record LostPower (homes : List Home) (s : Machine) (e : Refusal) (t : Machine) : Type 0 where
   pub place : Place
-  pub answer : e ≡ lost_at (power_place_of place)
+  pub answer : e ≡ lost_in place
   pub stage : t.stage ≡ Dark
   pub cut : CutChange place homes s.disk t.disk
 
@@ -59,7 +56,7 @@ own_slip m house slip =
 
 -- the record of a slip that a user countersigns
 abbrev pub posting : Entered → ℕ → Record
-posting slip user = Posting (posting_of slip.numbers slip.enterer user)
+posting slip user = Posting (posting_by slip user)
 
 -- countersign: the slip is this house's (10), the word is the user's (8), and then the tests of a posting by the rows that
 -- stand now (11, 9, 12, 13, 14, 15)
@@ -68,8 +65,7 @@ countersigned m s user word slip = do
   may_work s.stage
   own_slip m (house_on (home_of s)) slip
   known (home_of s) user word
-  wanted (home_of s) (posting slip user)
-      (posted m (room_of s) (standing_on (home_of s)) (posting_of slip.numbers slip.enterer user))
+  wanted (home_of s) (posting slip user) (posted m (room_of s) (standing_on (home_of s)) (posting_by slip user))
 
 pub record Countersigns (m : Meaning) (s : Machine) (user : ℕ) (word : List ℕ) (slip : Entered) (r : Result ℕ Refusal) (t : Machine) : Type 0 where
   pub note : IsNote slip.numbers

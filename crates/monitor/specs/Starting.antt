@@ -3,7 +3,7 @@ use Rattle.std.specs.Prelude.{◌≡◌, ℕ, ◌^◌, not, ◌&&◌, List, [], 
 use Rattle.refusals.specs.declared.format_place.FormatPlace.{FormatPlace}
 use Rattle.refusals.specs.declared.format_place.FormatPlace.TheVariants as at
 use Rattle.refusals.specs.declared.power_place.PowerPlace.TheVariants as power
-use Rattle.refusals.specs.declared.reasons.Reason.TheVariants.{BadFormat, BadSize, InvalidOpening}
+use Rattle.refusals.specs.declared.reasons.Reason.TheVariants.{PowerLost, BadFormat, BadSize, InvalidOpening}
 use Rattle.refusals.specs.declared.refusal.Refusal.{Refusal}
 use Rattle.refusals.specs.Numbers.{number}
 use Rattle.refusals.specs.Places.{format_place_number}
@@ -80,7 +80,7 @@ pub record Formats (m : Meaning) (s : Machine) (house : ℕ) (roll opening : Lis
 -- the stage that attach leaves: open if it accepts, dark if it lost power, else shut
 abbrev pub stage_after : Result ℕ Refusal → Stage
 stage_after (Ok n) = Open
-stage_after (Err e) = if number e.reason == 7 then Dark else Shut
+stage_after (Err e) = if number e.reason == number PowerLost then Dark else Shut
 
 -- attach: what an inspection makes of the drive, and the stage by its answer
 pub record Attaches (m : Meaning) (s : Machine) (r : Result ℕ Refusal) (t : Machine) : Type 0 where

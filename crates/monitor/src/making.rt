@@ -1,7 +1,7 @@
 ghost use Rattle.std.specs.Prelude.{◌≡◌, ◌<◌};
 ghost use Rattle.carrying.specs.Standing.{standing_of};
 ghost use Rattle.image.specs.Home.{head_on};
-ghost use Rattle.monitor.specs.Calls.{power_place_of, Makes};
+ghost use Rattle.monitor.specs.Calls.{Makes};
 ghost use Rattle.monitor.specs.Changing.{change_for, Within};
 ghost use Rattle.monitor.specs.Machine.{home_of, room_of};
 ghost use Rattle.monitor.specs.declared.stage.Stage.TheVariants.{Open};
@@ -12,21 +12,10 @@ use crate::stage::Stage;
 use books::Book;
 use carrying::Held;
 use drives::Drive;
-use journals::{ChangeFault, Place};
+use journals::ChangeFault;
 use layout::Head;
 use records::Record;
-use refusals::{PowerPlace, Refusal};
-
-/// The place that people see of where a change lost power.
-fn power_place(place: Place) -> PowerPlace
-    ensures value { result ≡ power_place_of place }
-{
-    match place {
-        Place::Staging => PowerPlace::Staging,
-        Place::Committing => PowerPlace::Committing,
-        Place::Applying => PowerPlace::Applying,
-    }
-}
+use refusals::{Reason, Refusal};
 
 impl<D: Drive, B: Book> Monitor<D, B> {
     /// Makes the change of a record, of an open monitor with this head, where the record leaves the books like this.
@@ -44,7 +33,7 @@ impl<D: Drive, B: Book> Monitor<D, B> {
             Ok(()) => Ok(u64::from(head.count) + 1),
             Err(ChangeFault::Cut(place)) => {
                 self.stage = Stage::Dark;
-                Err(Refusal::power_lost(power_place(place)))
+                Err(Refusal::at(Reason::PowerLost, place.into()))
             }
             Err(ChangeFault::Off | ChangeFault::Beyond) => unreachable!(),
         }

@@ -1,10 +1,11 @@
 ghost use Rattle.std.specs.Prelude.{◌≡◌, ◌<◌, ◌&&◌, ◌==◌, OnOk};
 ghost use Rattle.journals.specs.State.{size, home_of};
-ghost use Rattle.carrying.specs.Carried.{posted as posted-on, posting_of as posting-of};
+ghost use Rattle.carrying.specs.Carried.{posted as posted-on};
 ghost use Rattle.carrying.specs.Results.{Gives};
 ghost use Rattle.image.specs.Home.{standing_with};
 ghost use Rattle.image.specs.Layout.{room};
 ghost use Rattle.monitor.specs.Calls.{own_slip, Countersigns};
+ghost use Rattle.monitor.specs.Slips.{posting_by};
 
 use crate::entered::Entered;
 use crate::entering::identify;
@@ -46,7 +47,7 @@ fn posted<D: Drive, B: Book>(
 ) -> Result<Held, Refusal>
     ensures gives { Gives (posted-on B.meaning (room (size reader.now))
         (standing_with (home_of reader.now) head.count)
-        (posting-of slip.now.entered.numbers slip.now.entered.enterer countersigner)) result }
+        (posting_by slip.now.entered countersigner)) result }
     ensures had_room { OnOk result (head.count < room (size reader.now)) }
 {
     let mut held = reader.held(head);

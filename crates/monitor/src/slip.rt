@@ -1,9 +1,9 @@
 ghost use Rattle.std.specs.Prelude.{◌≡◌, ◌<◌, true, OnOk};
 ghost use Rattle.notes.specs.Notes.{IsNote};
-ghost use Rattle.carrying.specs.Carried.{posted, posting_of as posting-of};
+ghost use Rattle.carrying.specs.Carried.{posted};
 ghost use Rattle.carrying.specs.Results.{Leaves};
 ghost use Rattle.carrying.specs.Standing.{standing_of};
-ghost use Rattle.monitor.specs.Slips.{Paper, unspent};
+ghost use Rattle.monitor.specs.Slips.{Paper, unspent, posting_by};
 
 use crate::entered::Entered;
 use books::Book;
@@ -76,8 +76,7 @@ impl Slip {
 
     /// What the record of the slip says that a user countersigns.
     pub(crate) fn posting(&self, countersigner: u8) -> Posting
-        ensures value { result ≡ posting-of self.now.entered.numbers
-            self.now.entered.enterer countersigner }
+        ensures value { result ≡ posting_by self.now.entered countersigner }
     {
         posting_of(&self.note, self.enterer, countersigner)
     }
@@ -90,7 +89,7 @@ impl Slip {
         countersigner: u8,
     ) -> Result<(), Refusal>
         ensures leaves { Leaves (posted B.meaning held.old.room (standing_of held.old)
-            (posting-of self.now.entered.numbers self.now.entered.enterer countersigner))
+            (posting_by self.now.entered countersigner))
             held.old result held.new }
         ensures had_room { OnOk result (held.old.count < held.old.room) }
     {

@@ -23,18 +23,18 @@ kind_number kind.Strike = 3
 
 -- a number is a kind's
 abbrev pub is_kind : ℕ → Bool
-is_kind n = n == 1 || (n == 2 || n == 3)
+is_kind n = n == kind_number kind.Posting || (n == kind_number kind.Certification || n == kind_number kind.Strike)
 
 -- no field is filled
 abbrev pub nothing_filled : Fields
 nothing_filled =
     record { kind = 0; first = 0; second = 0; procedure = 0; role = 0; row = 0; a = 0; b = 0; amount = 0; mask = 0 }
 
--- a posting is kind 1, a certification 2, a strike 3; what a kind does not fill is zero
+-- what a kind does not fill is zero
 abbrev pub fields_of : Record → Fields
 fields_of (Posting p) =
     record nothing_filled {
-      kind = 1;
+      kind = kind_number kind.Posting;
       first = p.enterer;
       second = p.countersigner;
       procedure = p.procedure;
@@ -44,14 +44,14 @@ fields_of (Posting p) =
     }
 fields_of (Certification c) =
     record nothing_filled {
-      kind = 2;
+      kind = kind_number kind.Certification;
       first = c.user;
       procedure = c.procedure;
       role = c.role;
       row = c.row;
       mask = c.mask;
     }
-fields_of (Strike w) = record nothing_filled { kind = 3; row = w }
+fields_of (Strike w) = record nothing_filled { kind = kind_number kind.Strike; row = w }
 
 -- the block of a record with its number
 abbrev pub encoded : ℕ → Record → List ℕ
@@ -85,12 +85,16 @@ certification_in c =
       mask = number_at w64 c 16;
     })
 
+-- the first byte of a block is the number of a kind
+abbrev pub has_kind : Kind → List ℕ → Bool
+has_kind k c = slice_index c 0 == kind_number k
+
 -- the record that a block's fields give, whatever its other bytes hold
 abbrev pub parsed : List ℕ → Option Record
 parsed c =
-    if slice_index c 0 == 1 then Some (posting_in c)
-    else if slice_index c 0 == 2 then Some (certification_in c)
-    else if slice_index c 0 == 3 then Some (Strike (slice_index c 5))
+    if has_kind kind.Posting c then Some (posting_in c)
+    else if has_kind kind.Certification c then Some (certification_in c)
+    else if has_kind kind.Strike c then Some (Strike (slice_index c 5))
     else None
 
 -- an encoded record is read back from its block

@@ -1,8 +1,13 @@
+ghost use Rattle.std.specs.Prelude.{Some};
+ghost use Rattle.records.specs.Texts.{posting_text, certification_text, record_text};
+
 use crate::record::{Certification, Posting, Record};
 use std::fmt;
 
-/// A posting in words, for people. What it prints is tested, not proved.
+/// A posting in words, for people.
 impl fmt::Display for Posting {
+    ghost output = { λ x. Some (posting_text x) };
+
     fn fmt<W: fmt::Write>(&self, f: &mut fmt::Formatter<W>) -> fmt::Result {
         write!(
             f,
@@ -12,19 +17,23 @@ impl fmt::Display for Posting {
     }
 }
 
-/// A certification in words, for people. What it prints is tested, not proved.
+/// A certification in words, for people.
 impl fmt::Display for Certification {
+    ghost output = { λ x. Some (certification_text x) };
+
     fn fmt<W: fmt::Write>(&self, f: &mut fmt::Formatter<W>) -> fmt::Result {
         write!(
             f,
-            "certification: row {}, user {}, procedure {}, role {}, mask {:#x}",
+            "certification: row {}, user {}, procedure {}, role {}, mask 0x{:x}",
             self.row, self.user, self.procedure, self.role, self.mask
         )
     }
 }
 
-/// A record in words, for people. What it prints is tested, not proved.
+/// A record in words, for people.
 impl fmt::Display for Record {
+    ghost output = { λ x. Some (record_text x) };
+
     fn fmt<W: fmt::Write>(&self, f: &mut fmt::Formatter<W>) -> fmt::Result {
         match self {
             Record::Posting(posting) => write!(f, "{posting}"),

@@ -14,11 +14,9 @@ step_place_number step.Items = 1
 step_place_number step.Amount = 2
 step_place_number step.Values = 3
 
+-- 1 to 3 are the places of a change, which the journal numbers
 abbrev pub power_place_number : PowerPlace → ℕ
 power_place_number power.Dark = 0
-power_place_number power.Staging = 1
-power_place_number power.Committing = 2
-power_place_number power.Applying = 3
 power_place_number power.Starting = 4
 
 abbrev pub format_place_number : FormatPlace → ℕ

@@ -1,5 +1,5 @@
 -- A refusal as an answer, and tests one after another.
-use Rattle.std.specs.Prelude.{ℕ, Bool, true, false, Ok, Err, Result}
+use Rattle.std.specs.Prelude.{ℕ, Ok, Err, Result}
 use Rattle.refusals.specs.declared.reasons.Reason.{Reason}
 use Rattle.refusals.specs.declared.reasons.Reason.TheVariants.{PowerLost}
 use Rattle.refusals.specs.declared.power_place.PowerPlace.{PowerPlace}

@@ -64,6 +64,10 @@ abbrev pub guarded : Option Rule → List ℕ
 guarded (Some r) = rule_name r
 guarded None = codes "no rule"
 
+-- the line up to its words: "refusal 3 (note, C5), place 8"
+abbrev pub heading : Refusal → List ℕ
+heading r = codes "refusal " ++ (decimal (number r.reason) ++ (codes " (" ++ (layer_name (layer_of r.reason) ++ (codes ", " ++ (guarded (rule_of r.reason) ++ (codes "), place " ++ decimal r.place))))))
+
 -- the whole line: "refusal 3 (note, C5), place 8: the two items are the same"
 abbrev pub line : Refusal → List ℕ
-line r = codes "refusal " ++ (decimal (number r.reason) ++ (codes " (" ++ (layer_name (layer_of r.reason) ++ (codes ", " ++ (guarded (rule_of r.reason) ++ (codes "), place " ++ (decimal r.place ++ (codes ": " ++ meaning_of r.reason))))))))
+line r = heading r ++ (codes ": " ++ meaning_of r.reason)

@@ -14,6 +14,6 @@ mod step_place;
 pub use format_place::FormatPlace;
 pub use power_place::PowerPlace;
 pub use reasons::{Layer, Reason, Rule};
-pub use refusal::Refusal;
+pub use refusal::{Heading, Refusal};
 pub use row_place::RowPlace;
 pub use step_place::StepPlace;

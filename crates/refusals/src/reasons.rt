@@ -17,11 +17,12 @@ pub enum Reason {
     SameItem = 3,
     /// The amount is not from 1 to the book's ceiling. Place: the amount.
     BadAmount = 4,
-    /// A line of the script is not of any form. Place: the line's number; 0 for a script that is too long.
+    /// A line of the script is not of any form, or names a slip that does not wait. Place: the line's number; 0 for a
+    /// script that is too long.
     BadScript = 5,
     /// The monitor is shut. Place: 0.
     Shut = 6,
-    /// Power was lost. Place: a `PowerPlace`.
+    /// Power was lost. Place: a `PowerPlace`, or the place where the journal's change was cut.
     PowerLost = 7,
     /// No such user, or not that user's word. Place: the user.
     BadWord = 8,

@@ -1,6 +1,6 @@
 ghost use Rattle.std.specs.Prelude.{◌≡◌, Some};
 ghost use Rattle.refusals.specs.Refused.{lost_at};
-ghost use Rattle.refusals.specs.Texts.{guarded, line};
+ghost use Rattle.refusals.specs.Texts.{guarded, heading, line};
 
 use crate::power_place::PowerPlace;
 use crate::reasons::{Reason, Rule};
@@ -45,19 +45,31 @@ impl fmt::Display for Guarded {
     }
 }
 
+/// The part of a refusal's line that stands before its words: number, layer, rule and place. Where a refusal is told in other
+/// words than its reason's, these follow a heading.
+#[derive(Clone, Copy, PartialEq, Eq, Debug)]
+pub struct Heading(pub Refusal);
+
+impl fmt::Display for Heading {
+    ghost output = { λ h. Some (heading h.0) };
+
+    fn fmt<W: fmt::Write>(&self, f: &mut fmt::Formatter<W>) -> fmt::Result {
+        let reason = self.0.reason;
+        let place = self.0.place;
+        let number = u8::from(reason);
+        let layer = reason.layer();
+        let rule = Guarded(reason.rule());
+        write!(f, "refusal {number} ({layer}, {rule}), place {place}")
+    }
+}
+
 /// One line that can be read out on the telephone.
 impl fmt::Display for Refusal {
     ghost output = { λ r. Some (line r) };
 
     fn fmt<W: fmt::Write>(&self, f: &mut fmt::Formatter<W>) -> fmt::Result {
+        let heading = Heading(*self);
         let reason = self.reason;
-        let place = self.place;
-        let number = u8::from(reason);
-        let layer = reason.layer();
-        let rule = Guarded(reason.rule());
-        write!(
-            f,
-            "refusal {number} ({layer}, {rule}), place {place}: {reason}"
-        )
+        write!(f, "{heading}: {reason}")
     }
 }

@@ -13,7 +13,7 @@ role_number Countersign = 2
 
 -- a number is a role's
 abbrev pub is_role : ℕ → Bool
-is_role n = n == 1 || n == 2
+is_role n = n == role_number Enter || n == role_number Countersign
 
 -- the bit of value 2 ^ i stands for item i
 abbrev pub has_item : ℕ → ℕ → Bool

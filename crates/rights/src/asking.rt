@@ -37,7 +37,7 @@ pub fn covering_row(rows: &[Row], asked: Asked, item: u64) -> Option<usize>
     ensures item_within { is_some result ≡ true → item < 64 }
     ensures covers_item { IfSome result (CoversAt rows.now asked item) }
 {
-    // The row question is asked by a `for` with the index, left at a row that covers: the form is wanted.
+    // A loop with the index, left at a row that covers: so it reads as the question is asked.
     for (k, row) in rows.iter().enumerate() {
         if row.covers(asked, item) {
             return Some(k);

@@ -10,11 +10,12 @@ use Rattle.stock.specs.Stock.{stock}
 use Rattle.lexer.specs.Pieces.{printable, words, uncommented}
 use Rattle.lexer.specs.Numerals.{number_typed}
 use Rattle.carrying.specs.declared.row_draft.RowDraft.{RowDraft}
+use Rattle.calls.specs.Plain.{Attaches, Certifies, Strikes, LooksAtItem, LooksAtRecord}
 use Rattle.script.specs.Options.{◌>>=◌}
 use Rattle.script.specs.declared.line.BookName.{BookName}
 use Rattle.script.specs.declared.line.BookName.TheVariants as book-name
 use Rattle.script.specs.declared.line.TypedNote.{TypedNote}
-use Rattle.script.specs.Said.{Asked, noting, formatting, attaching, entering, countersigning, withdrawing, certifying, striking, item_shown, record_shown, Said, nothing, book_is, house_is, more_roll, more_opening, more_cuts, asks}
+use Rattle.script.specs.Said.{Asked, noting, formatting, entering, countersigning, withdrawing, plainly, Said, nothing, book_is, house_is, more_roll, more_opening, more_cuts, asks}
 
 -- the book of a name
 abbrev pub meaning_of : BookName → Meaning
@@ -103,7 +104,7 @@ format_form _ = None
 
 -- `attach`
 abbrev pub attach_form : List (List ℕ) → Option Asked
-attach_form [] = Some attaching
+attach_form [] = Some (plainly Attaches)
 attach_form _ = None
 
 -- `enter SLIP USER WORD PROCEDURE A B N`
@@ -139,29 +140,29 @@ typed_row book row user procedure role mask = do
 -- `certify WORD ROW USER PROCEDURE ROLE MASK`
 abbrev pub certify_form : BookName → List (List ℕ) → Option Asked
 certify_form book (word ∷ (row ∷ (user ∷ (procedure ∷ (role ∷ (mask ∷ [])))))) = do
-  row ← typed_row book row user procedure role mask
-  Some (certifying word row)
+  draft ← typed_row book row user procedure role mask
+  Some (plainly (Certifies word draft))
 certify_form book _ = None
 
 -- `strike WORD ROW`
 abbrev pub strike_form : List (List ℕ) → Option Asked
 strike_form (word ∷ (row ∷ [])) = do
   row ← number_typed row
-  Some (striking word row)
+  Some (plainly (Strikes word row))
 strike_form _ = None
 
 -- `item I`
 abbrev pub item_form : List (List ℕ) → Option Asked
 item_form (i ∷ []) = do
   item ← number_typed i
-  Some (item_shown item)
+  Some (plainly (LooksAtItem item))
 item_form _ = None
 
 -- `record K`
 abbrev pub record_form : List (List ℕ) → Option Asked
 record_form (k ∷ []) = do
   number ← number_typed k
-  Some (record_shown number)
+  Some (plainly (LooksAtRecord number))
 record_form _ = None
 
 -- a command by its name, under the book that is chosen above it

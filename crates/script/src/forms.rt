@@ -5,6 +5,7 @@ ghost use Rattle.script.specs.Grammar.{typed_procedure, typed_note as note_by_wo
 
 use crate::line::{BookName, Command, TypedNote};
 use books::{Draft, procedure_named};
+use calls::Plain;
 use carrying::RowDraft;
 use ledger::Ledger;
 use lexer::{Words, typed_number};
@@ -68,7 +69,10 @@ pub(crate) fn format_of<'a>(mut words: Words) -> Option<Command<'a>>
 pub(crate) fn attach_of<'a>(mut words: Words) -> Option<Command<'a>>
     ensures value { option_map asked_by result ≡ attach_form words.entry }
 {
-    words.next().is_none().then_some(Command::Attach)
+    words
+        .next()
+        .is_none()
+        .then_some(Command::Plain(Plain::Attach))
 }
 
 /// What follows `enter`.
@@ -145,8 +149,8 @@ pub(crate) fn certify_of<'a>(book: BookName, mut words: Words<'a>) -> Option<Com
     let role = words.next()?;
     let mask = words.next()?;
     let None = words.next() else { return None };
-    let row = typed_row(book, row, user, procedure, role, mask)?;
-    Some(Command::Certify { word, row })
+    let draft = typed_row(book, row, user, procedure, role, mask)?;
+    Some(Command::Plain(Plain::Certify { word, draft }))
 }
 
 /// What follows `strike`.
@@ -156,10 +160,10 @@ pub(crate) fn strike_of<'a>(mut words: Words<'a>) -> Option<Command<'a>>
     let word = words.next()?;
     let row = words.next()?;
     let None = words.next() else { return None };
-    Some(Command::Strike {
+    Some(Command::Plain(Plain::Strike {
         word,
         row: typed_number(row)?,
-    })
+    }))
 }
 
 /// What follows `item`.
@@ -168,9 +172,9 @@ pub(crate) fn item_of<'a>(mut words: Words) -> Option<Command<'a>>
 {
     let item = words.next()?;
     let None = words.next() else { return None };
-    Some(Command::Item {
+    Some(Command::Plain(Plain::Item {
         item: typed_number(item)?,
-    })
+    }))
 }
 
 /// What follows `record`.
@@ -179,7 +183,7 @@ pub(crate) fn record_of<'a>(mut words: Words) -> Option<Command<'a>>
 {
     let number = words.next()?;
     let None = words.next() else { return None };
-    Some(Command::Record {
+    Some(Command::Plain(Plain::Record {
         number: typed_number(number)?,
-    })
+    }))
 }

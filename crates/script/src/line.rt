@@ -1,7 +1,7 @@
 ghost use Rattle.std.specs.Prelude.{◌≡◌};
 
 use books::Draft;
-use carrying::RowDraft;
+use calls::Plain;
 
 /// The books that a script can choose.
 #[derive(Clone, Copy, PartialEq, Eq, Debug)]
@@ -37,12 +37,10 @@ pub struct TypedNote {
 pub enum Command<'a> {
     /// Makes a note or refuses it, and does nothing else with it.
     Note(TypedNote),
-    /// Formats the drive under a house number.
+    /// Formats the drive under a house number, with the roll and opening that lines of their own set up.
     Format {
         house: u64,
     },
-    /// Attaches the drive as it stands.
-    Attach,
     /// Enters a note: from then on the slip names it.
     Enter {
         slip: &'a [u8],
@@ -60,24 +58,8 @@ pub enum Command<'a> {
     Withdraw {
         slip: &'a [u8],
     },
-    /// Fills a row of the rights.
-    Certify {
-        word: &'a [u8],
-        row: RowDraft,
-    },
-    /// Frees a row of the rights.
-    Strike {
-        word: &'a [u8],
-        row: u64,
-    },
-    /// Shows an item.
-    Item {
-        item: u64,
-    },
-    /// Shows a record of the audit.
-    Record {
-        number: u64,
-    },
+    /// Makes a call that needs no slip, and that one line types whole: attach, certify, strike, item, record.
+    Plain(Plain<'a>),
 }
 
 /// What one line of a script says.

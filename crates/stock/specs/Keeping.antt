@@ -1,4 +1,4 @@
--- The stock book's step keeps a valid list valid: item 0 moves as its shelf does.
+-- A valid list of the stock book has 64 codes, and its step keeps it valid: item 0 moves as its shelf does.
 use Rattle.std.specs.Prelude.{◌≡◌, ℕ, zero, suc, ◌+◌, ◌^◌, ◌<◌, true, ◌&&◌, List, [], ◌∷◌, length, sum_by, ◌==◌, ◌≢◌, nat_le, slice_index, slice_set, Ok, refl}
 use Rattle.std.proofs.Common.{sym, ap, ◌∙◌, arith}
 use Rattle.std.proofs.lemmas.List.{length-set}
@@ -8,7 +8,8 @@ use Rattle.std.specs.List.{list_all}
 use Rattle.lists.specs.Answers.{passed, same_ok}
 use Rattle.lists.specs.Elements.{all_set}
 use Rattle.books.specs.declared.draft.Draft.{Draft}
-use Rattle.books.specs.Meaning.{StepKeepsValid, amount_ok, codes_at}
+use Rattle.books.specs.Meaning.{ValidHas64Codes, StepKeepsValid, amount_ok, codes_at}
+use Rattle.stock.specs.Procedures.{is_procedure}
 use Rattle.stock.specs.Stock.{stock, stock_valid, stock_takes, stock_step, held, most, reels_code, shelf_ok, in_order, held_after, most_after, halves_stay, code_stays, shelf_stays, reels_stay, code_after}
 
 -- the halves of a code are those that it was made of
@@ -71,7 +72,7 @@ keeps c cs d a x y la len ok h m stay ex ey =
 -- what is taken is a shelf and item 0
 shelf_taken : (d : Draft) → stock_takes d ≡ true → (nat_le 1 d.a ≡ true) × (nat_le d.a 63 ≡ true)
 shelf_taken d t =
-    let items = (and_parts (nat_le 1 d.procedure && nat_le d.procedure 3) _ t).1 in
+    let items = (and_parts (is_procedure d.procedure) _ t).1 in
     and_parts (nat_le 1 d.a) (nat_le d.a 63) (and_parts (nat_le 1 d.a && nat_le d.a 63) (d.b == 0) items).0
 
 none_at_zero : (d : Draft) → d.a ≡ 0 → stock_takes d ≢ true
@@ -79,7 +80,7 @@ none_at_zero d z t = let a = leb-true 1 d.a (shelf_taken d t).0 in omega arith
 
 only_at_zero : (d : Draft) → stock_takes d ≡ true → d.b ≡ 0
 only_at_zero d t =
-    let items = (and_parts (nat_le 1 d.procedure && nat_le d.procedure 3) _ t).1 in
+    let items = (and_parts (is_procedure d.procedure) _ t).1 in
     eqb-true d.b 0 (and_parts (nat_le 1 d.a && nat_le d.a 63) (d.b == 0) items).1
 
 -- by the items of the draft: a is past item 0, and b is item 0
@@ -105,6 +106,9 @@ kept (c ∷ cs) d (suc a) zero x y ea eb v s =
     keeps c cs d a x y (omega arith) (omega arith) vo.0
     (eqb-true (held c) (sum_by held cs) vs.0) (eqb-true (most c) (sum_by most cs) vs.1)
     s3.0 (sym (ap (λ (z : ℕ × ℕ). z.0) q)) (sym (ap (λ (z : ℕ × ℕ). z.1) q))
+
+pub stock_has_64_codes : ValidHas64Codes stock
+stock_has_64_codes codes v = eqb-true (length codes) 64 (and_parts (length codes == 64) _ v).0
 
 pub stock_keeps : StepKeepsValid stock
 stock_keeps codes d x y la lb ne v s = kept codes d d.a d.b x y refl refl v s

@@ -1,5 +1,6 @@
+pub mod Procedures
 pub mod Stock
 pub mod Shelf
-pub mod Procedures
+pub mod Numbered
 pub mod Stepping
 pub mod Keeping

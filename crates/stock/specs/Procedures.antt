@@ -1,9 +1,5 @@
--- The stock book's procedures and their numbers.
-use Rattle.std.specs.Prelude.{◌≡◌, ℕ, true, false, Result, MatchResult}
-use Rattle.refusals.specs.declared.step_place.StepPlace.{StepPlace}
-use Rattle.refusals.specs.declared.step_place.StepPlace.TheVariants.{Items}
-use Rattle.books.specs.Meaning.{has_procedure}
-use Rattle.stock.specs.Stock.{stock}
+-- The stock book's procedures by their numbers.
+use Rattle.std.specs.Prelude.{ℕ, Bool, ◌||◌, ◌==◌}
 use Rattle.stock.specs.declared.Procedure.{Procedure}
 use Rattle.stock.specs.declared.Procedure.TheVariants.{Build, Take, Give}
 
@@ -12,9 +8,6 @@ number Build = 1
 number Take = 2
 number Give = 3
 
--- the procedure of a number; any other number is refused as step refuses it
-abbrev pub Numbered : ℕ → Result Procedure StepPlace → Type 0
-Numbered n r =
-    MatchResult r
-    (λ p. (number p ≡ n) × (has_procedure stock n ≡ true))
-    (λ e. (e ≡ Items) × (has_procedure stock n ≡ false))
+-- a number is a procedure's
+abbrev pub is_procedure : ℕ → Bool
+is_procedure n = n == number Build || (n == number Take || n == number Give)

@@ -2,11 +2,14 @@
 use Rattle.std.specs.Prelude.{◌≡◌, ℕ, ◌+◌, ◌*◌, ◌^◌, ◌<◌, Bool, true, false, not, ◌&&◌, Ok, Err, ◌==◌, nat_le, nat_lt, refl, if◌then◌else◌}
 use Rattle.std.proofs.Common.{ap, subst, arith}
 use Rattle.std.proofs.lemmas.Bool.{and_parts, ltb-true}
+use Rattle.std.proofs.lemmas.Bool.Decides.{nat_tests}
 use Rattle.refusals.specs.declared.step_place.StepPlace.TheVariants.{Values}
 use Rattle.lists.specs.Answers.{passed, same_ok}
 use Rattle.books.specs.declared.draft.Draft.{Draft}
-use Rattle.books.specs.Meaning.{StepTests, StepGivesCodes, amount_ok, has_procedure}
-use Rattle.books.specs.Testing.{ByValues, tests_of_step}
+use Rattle.books.specs.Meaning.{StepTests, AmountTestIsCeiling, StepGivesCodes, amount_ok, has_procedure}
+use Rattle.books.specs.Testing.{ByValues, TestsInOrder, tests_of_step, amount_test_of_step}
+use Rattle.stock.specs.Procedures.{number}
+use Rattle.stock.specs.declared.Procedure.TheVariants.{Give}
 use Rattle.stock.specs.Stock.{stock, stock_takes, held, most, held_after, most_after, code_stays, shelf_stays, reels_stay, code_after}
 
 -- two codes, or place 3
@@ -16,12 +19,24 @@ by_values false xy = refl
 
 -- a procedure without a word takes no items
 wordless : (d : Draft) → has_procedure stock d.procedure ≡ false → stock_takes d ≡ false
-wordless d h = ap (λ t. t && ((nat_le 1 d.a && nat_le d.a 63) && d.b == 0)) h
+wordless d h = grind (arith, nat_tests)
+
+stock_in_order : TestsInOrder stock
+stock_in_order =
+    record {
+      takes = stock_takes;
+      given = λ d codes. if not (reels_stay d codes) then Err Values else Ok (code_after d codes.0, code_after d codes.1);
+      step = λ d codes. refl;
+      by_values = λ d codes. by_values _ _;
+      any_amount = λ d n. refl;
+      wordless = wordless;
+    }
 
 pub stock_tests : StepTests stock
-stock_tests =
-    tests_of_step stock stock_takes (λ d codes. if not (reels_stay d codes) then Err Values else Ok (code_after d codes.0, code_after d codes.1))
-    (λ d codes. refl) (λ d codes. by_values _ _) (λ d n. refl) wordless
+stock_tests = tests_of_step stock stock_in_order
+
+pub stock_amounts : AmountTestIsCeiling stock
+stock_amounts = amount_test_of_step stock stock_in_order
 
 -- two halves of 32 bits make a code of 64
 halves : (h m : ℕ) → h < 2 ^ 32 → m < 2 ^ 32 → h + m * 2 ^ 32 < 2 ^ 64
@@ -32,7 +47,7 @@ code_fits : (d : Draft) (c : ℕ) → code_stays d c ≡ true → code_after d c
 code_fits d c h =
     let left : ℕ = held_after d.procedure (held c) d.amount in
     let right : ℕ = most_after d.procedure (most c) d.amount in
-    let s = (and_parts (if d.procedure == 3 then nat_le d.amount (held c) else true) (nat_lt left (2 ^ 32) && nat_lt right (2 ^ 32)) h).1 in
+    let s = (and_parts (if d.procedure == number Give then nat_le d.amount (held c) else true) (nat_lt left (2 ^ 32) && nat_lt right (2 ^ 32)) h).1 in
     let t = and_parts (nat_lt left (2 ^ 32)) (nat_lt right (2 ^ 32)) s in
     halves left right (ltb-true left (2 ^ 32) t.0) (ltb-true right (2 ^ 32) t.1)
 

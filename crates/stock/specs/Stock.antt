@@ -5,6 +5,8 @@ use Rattle.refusals.specs.declared.step_place.StepPlace.{StepPlace}
 use Rattle.refusals.specs.declared.step_place.StepPlace.TheVariants.{Items, Amount, Values}
 use Rattle.books.specs.declared.draft.Draft.{Draft}
 use Rattle.books.specs.Meaning.{Meaning, amount_ok}
+use Rattle.stock.specs.Procedures.{number, is_procedure}
+use Rattle.stock.specs.declared.Procedure.TheVariants.{Build, Take, Give}
 
 -- the reels held: the low 32 bits of a code
 abbrev pub held : ℕ → ℕ
@@ -36,23 +38,22 @@ stock_valid cs =
 
 -- every procedure takes a shelf and item 0
 abbrev pub stock_takes : Draft → Bool
-stock_takes d =
-    (nat_le 1 d.procedure && nat_le d.procedure 3) && ((nat_le 1 d.a && nat_le d.a 63) && d.b == 0)
+stock_takes d = is_procedure d.procedure && ((nat_le 1 d.a && nat_le d.a 63) && d.b == 0)
 
--- build (1) adds to the most, take (2) to the held, give (3) takes from the held
+-- build adds to the most, take to the held, give takes from the held
 abbrev pub held_after : ℕ → ℕ → ℕ → ℕ
 held_after p h n =
-    if p == 2 then h + n
-    else if p == 3 then h - n
+    if p == number Take then h + n
+    else if p == number Give then h - n
     else h
 
 abbrev pub most_after : ℕ → ℕ → ℕ → ℕ
-most_after p m n = if p == 1 then m + n else m
+most_after p m n = if p == number Build then m + n else m
 
 -- no half leaves 0 to 4,294,967,295
 abbrev pub halves_stay : ℕ → ℕ → ℕ → ℕ → Bool
 halves_stay p h m n =
-    (if p == 3 then nat_le n h else true)
+    (if p == number Give then nat_le n h else true)
     && (nat_lt (held_after p h n) (2 ^ 32) && nat_lt (most_after p m n) (2 ^ 32))
 
 -- a code keeps its halves

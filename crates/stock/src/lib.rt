@@ -2,11 +2,11 @@
 // rules.
 #![tactic(auto)]
 
-ghost use Rattle.std.specs.Prelude.{◌≡◌, ◌≤◌, sum_by, length};
-ghost use Rattle.stock.specs.Stock.{stock, shelf_ok, in_order, held, most, reels_code};
-ghost use Rattle.std.specs.List.{list_all};
+ghost use Rattle.std.specs.Prelude.{◌≡◌};
+ghost use Rattle.stock.specs.Stock.{stock, stock_takes, shelf_ok, held, most, reels_code};
+ghost use Rattle.books.specs.Meaning.{AmountTestIsCeiling};
 ghost use Rattle.books.specs.Words.{word_of};
-ghost use Rattle.stock.specs.Keeping.{stock_keeps};
+ghost use Rattle.stock.specs.Keeping.{stock_has_64_codes, stock_keeps};
 ghost use Rattle.stock.specs.Stepping.{stock_tests, stock_gives_codes};
 ghost use Rattle.std.proofs.Common.{rules};
 
@@ -44,7 +44,7 @@ const PROCEDURES: u64 = Procedure::Give as u64;
 // Each book has an enum and a `TryFrom` of its own: a trait over both would be as long as the two.
 /// The procedure of a number. The step refuses any other number as it refuses items that no procedure takes.
 impl TryFrom<u64> for Procedure {
-    ghost use Rattle.stock.specs.Procedures.{Numbered};
+    ghost use Rattle.stock.specs.Numbered.{Numbered};
 
     type Error = StepPlace;
 
@@ -73,6 +73,14 @@ impl Procedure {
             Procedure::Take => "take",
             Procedure::Give => "give",
         }
+    }
+
+    /// Whether it takes the items of a draft, which is a draft of this procedure. Each takes a shelf and item 0.
+    fn takes(self, draft: Draft) -> bool
+        requires procedure { draft.procedure ≡ number self }
+        ensures value { result ≡ stock_takes draft }
+    {
+        (1..=63).contains(&draft.a) && draft.b == 0
     }
 
     /// What it leaves of a pair, unless a half would leave its 32 bits.
@@ -126,28 +134,11 @@ impl Reels {
     }
 }
 
-/// Whether every shelf is in order.
-fn are_in_order(shelves: &[u64]) -> bool
-    ensures value { result ≡ list_all in_order shelves.now }
+/// A theorem: where it takes the items, the step refuses at place 2 exactly the amounts outside 1 to the ceiling.
+pub fn refuses_amounts_outside_ceiling() -> bool
+    ensures holds { AmountTestIsCeiling stock }
 {
-    shelves.iter().all(|code| Reels::from(*code).is_in_order())
-}
-
-/// How many reels the shelves hold together, and how many they take at most.
-fn sums_of(shelves: &[u64]) -> (u64, u64)
-    requires few { length shelves.now ≤ 63 }
-    ensures held { result.0 ≡ sum_by held shelves.now }
-    ensures most { result.1 ≡ sum_by most shelves.now }
-{
-    let held = shelves
-        .iter()
-        .map(|code| u64::from(Reels::from(*code).held))
-        .sum();
-    let most = shelves
-        .iter()
-        .map(|code| u64::from(Reels::from(*code).most))
-        .sum();
-    (held, most)
+    true
 }
 
 impl Book for Stock {
@@ -177,6 +168,8 @@ impl Book for Stock {
 
     ghost proper_words = { Prim.search rules };
 
+    ghost valid_has_64_codes = { stock_has_64_codes };
+
     ghost step_tests = { stock_tests };
 
     ghost step_gives_codes = { stock_gives_codes };
@@ -205,26 +198,35 @@ impl Book for Stock {
         if codes.len() != 64 {
             return false;
         }
-        let sums = Reels::from(codes[0]);
-        let shelves = &codes[1..];
-        let (held, most) = sums_of(shelves);
-        are_in_order(shelves) && u64::from(sums.held) == held && u64::from(sums.most) == most
+        // Each shelf is tested before its halves are added, so that the sums fit.
+        let mut held = 0;
+        let mut most = 0;
+        for code in &codes[1..] {
+            let reels = Reels::from(*code);
+            if !reels.is_in_order() {
+                return false;
+            }
+            held += reels.held;
+            most += reels.most;
+        }
+        Reels::from(codes[0]) == Reels { held, most }
     }
 
     fn step(&self, draft: Draft, codes: (u64, u64)) -> Result<(u64, u64), StepPlace> {
         let procedure = Procedure::try_from(draft.procedure)?;
-        if !(1..=63).contains(&draft.a) || draft.b != 0 {
+        if !procedure.takes(draft) {
             return Err(StepPlace::Items);
         }
         if !(1..=Self::CEILING).contains(&draft.amount) {
             return Err(StepPlace::Amount);
         }
         let amount = draft.amount as u32;
+        let (code_a, code_b) = codes;
         let shelf = procedure
-            .work(Reels::from(codes.0), amount)
+            .work(Reels::from(code_a), amount)
             .ok_or(StepPlace::Values)?;
         let sums = procedure
-            .work(Reels::from(codes.1), amount)
+            .work(Reels::from(code_b), amount)
             .ok_or(StepPlace::Values)?;
         if !shelf.is_in_order() {
             return Err(StepPlace::Values);

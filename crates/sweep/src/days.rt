@@ -1,11 +1,12 @@
 // A day, kept with one cut number: what stood at its end, compared with the tally.
 use crate::tally::{Tally, Tray};
 use books::Book;
-use day::{Expected, Plan, Said, first_calls, keep_day, plan_day};
-use desk::{Answer, Call};
+use calls::Plain;
+use day::{Expected, Plan, keep_day, plan_day};
+use desk::{Request, Told};
 use records::Record;
 use refusals::Reason;
-use script::Script;
+use script::{Script, Setup};
 use std::alloc::{AllocError, Global};
 
 /// What stood at the end of a day.
@@ -30,38 +31,52 @@ pub struct End {
 }
 
 /// The place at which power was lost in a call, if it was; 0 is no loss, but a call of a dark monitor.
-fn place_lost(answer: &Answer) -> Option<u64> {
+fn place_lost(answer: &Told) -> Option<u64> {
     match answer {
-        Answer::Count(Err(refusal)) if refusal.reason == Reason::PowerLost && refusal.place != 0 =>
-            { Some(refusal.place) }
+        Told::Count(Err(refusal)) if refusal.reason == Reason::PowerLost && refusal.place != 0 => {
+            Some(refusal.place)
+        }
         _ => None,
     }
 }
 
-/// The calls of a day, then an attach, another if that one was cut, and a look at every item.
-fn and_looks(mut calls: Vec<Call<'_>>) -> Result<Vec<Call<'_>>, AllocError> {
-    calls.push(Call::Attach)?;
-    calls.push(Call::Attach)?;
+/// The requests of a day, then an attach, another if that one was cut, and a look at every item.
+fn and_looks(mut requests: Vec<Request<'_>>) -> Result<Vec<Request<'_>>, AllocError> {
+    requests.push(Request::Plain(Plain::Attach))?;
+    requests.push(Request::Plain(Plain::Attach))?;
     for item in 0..64 {
-        calls.push(Call::Item { item })?;
+        requests.push(Request::Plain(Plain::Item { item }))?;
     }
-    Ok(calls)
+    Ok(requests)
+}
+
+/// What a script sets up, with other cut numbers.
+pub(crate) fn setup_with(heap: Global, setup: &Setup, cuts: &[u16]) -> Result<Setup, AllocError> {
+    let mut others = Vec::with_capacity(heap, cuts.len())?;
+    others.extend_from_slice(cuts)?;
+    Ok(Setup {
+        book: setup.book,
+        house: setup.house,
+        roll: setup.roll.clone()?,
+        opening: setup.opening.clone()?,
+        cuts: others,
+    })
 }
 
 /// Whether the items and records that were looked at are those of the tally.
-fn agrees(tally: &Tally, items: &[Answer], audit: &[Answer]) -> bool {
+fn agrees(tally: &Tally, items: &[Told], audit: &[Told]) -> bool {
     let items_agree = items.len() == 64
         && items
             .iter()
             .zip(&tally.held.items)
-            .all(|(answer, code)| *answer == Answer::Code(Ok(*code)));
+            .all(|(answer, code)| *answer == Told::Code(Ok(*code)));
     let records_agree = audit
         .iter()
         .zip(tally.records.as_slice())
-        .all(|(answer, entry)| *answer == Answer::Record(Ok(*entry)));
+        .all(|(answer, entry)| *answer == Told::Record(Ok(*entry)));
     let standing = audit
         .iter()
-        .filter(|answer| matches!(**answer, Answer::Record(Ok(_))))
+        .filter(|answer| matches!(**answer, Told::Record(Ok(_))))
         .count();
     items_agree && records_agree && standing == tally.records.len()
 }
@@ -72,8 +87,8 @@ fn tally_of<'t, 'a, B: Book>(
     book: &B,
     script: &Script<'t>,
     expected: &[Expected],
-    answers: &'a [Answer],
-) -> Result<(Tally, &'a [Answer]), AllocError> {
+    answers: &'a [Told],
+) -> Result<(Tally, &'a [Told]), AllocError> {
     let opening = script.setup.opening.as_slice();
     let mut tally = Tally::opened(heap, opening);
     let mut tray = Tray::new(heap);
@@ -102,22 +117,22 @@ fn tally_of<'t, 'a, B: Book>(
     Ok((tally, left))
 }
 
-/// Keeps the day of a script on a fresh drive over some bytes, with some cut numbers.
+/// Keeps the day of a script on a fresh drive over some bytes, with its setup, or one that has other cut numbers.
 pub(crate) fn keep_cut<'a, B: Book + Drop + Copy>(
     heap: Global,
     book: B,
     script: &'a Script<'a>,
+    setup: &'a Setup,
     bytes: &'a mut [u8],
-    cuts: &'a [u16],
 ) -> Result<End, AllocError> {
-    let Plan { calls, expected } = plan_day(heap, &script.setup, script.commands.as_slice())?;
-    let first = first_calls(heap, &script.setup)?;
-    let day = keep_day(heap, book, bytes, cuts, first, and_looks(calls)?)?;
-    let answers = day.answers.as_slice();
+    let Plan { requests, expected } = plan_day(heap, setup, script.commands.as_slice())?;
+    let (_, day) = keep_day(heap, book, bytes, setup, and_looks(requests)?);
+    let day = day?;
+    let answers = day.told.as_slice();
     let (tally, items) = tally_of(heap, &book, script, expected.as_slice(), answers)?;
     let stood = if !tally.known {
         Stood::NoTally
-    } else if agrees(&tally, items, day.audit.as_slice()) {
+    } else if agrees(&tally, items, day.looks.as_slice()) {
         Stood::AsTallied
     } else {
         Stood::Otherwise

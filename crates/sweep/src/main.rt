@@ -9,7 +9,7 @@ mod tally;
 
 use books::Book;
 use damage::sweep_damage;
-use days::{End, Stood, keep_cut};
+use days::{End, Stood, keep_cut, setup_with};
 use ledger::Ledger;
 use script::{BookName, Script, read_script};
 use std::{env, fs};
@@ -60,7 +60,8 @@ fn keep<B: Book + Drop + Copy>(
     cuts: &[u16],
 ) -> anyhow::Result<End> {
     bytes.fill(0);
-    Ok(keep_cut(rt.alloc(), book, &*script, bytes, cuts)?)
+    let setup = setup_with(rt.alloc(), &script.setup, cuts)?;
+    Ok(keep_cut(rt.alloc(), book, &*script, &setup, bytes)?)
 }
 
 /// Keeps the day where the power call after `calls` others takes a cut number, each that falls inside the day in turn; and where that

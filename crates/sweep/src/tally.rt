@@ -1,7 +1,8 @@
 // The tally of a day by its calls and answers, kept by hand: an oracle for the sweep, written apart from the monitor.
 use books::Book;
+use calls::Plain;
 use carrying::Held;
-use desk::Answer;
+use desk::Told;
 use monitor::Entered;
 use records::{Certification, Posting, Record};
 use refusals::Reason;
@@ -53,11 +54,11 @@ impl<'a> Tray<'a> {
 fn record_of<'a>(
     tray: &mut Tray<'a>,
     command: Command<'a>,
-    answer: Answer,
+    answer: Told,
 ) -> Result<Option<Record>, AllocError> {
     match command {
         Command::Enter { slip: name, .. } => {
-            if let Answer::Slip(Ok(slip)) = answer {
+            if let Told::Slip(Ok(slip)) = answer {
                 tray.tickets.push(Ticket { name, slip })?;
             }
             Ok(None)
@@ -78,14 +79,16 @@ fn record_of<'a>(
                 })
             }),
         ),
-        Command::Certify { row, .. } => Ok(Some(Record::Certification(Certification {
-            user: (row.user % 256) as u8,
-            procedure: (row.procedure % 256) as u8,
-            role: (row.role % 256) as u8,
-            row: (row.row % 256) as u8,
-            mask: row.mask,
-        }))),
-        Command::Strike { row, .. } => Ok(Some(Record::Strike {
+        Command::Plain(Plain::Certify { draft: row, .. }) => Ok(Some(Record::Certification(
+            Certification {
+                user: (row.user % 256) as u8,
+                procedure: (row.procedure % 256) as u8,
+                role: (row.role % 256) as u8,
+                row: (row.row % 256) as u8,
+                mask: row.mask,
+            },
+        ))),
+        Command::Plain(Plain::Strike { row, .. }) => Ok(Some(Record::Strike {
             row: (row % 256) as u8,
         })),
         _ => Ok(None),
@@ -113,10 +116,10 @@ impl Tally {
     }
 
     /// A format begins anew, or leaves nothing known.
-    fn format(&mut self, heap: Global, opening: &[u64], answer: Answer) {
+    fn format(&mut self, heap: Global, opening: &[u64], answer: Told) {
         match answer {
-            Answer::Count(Ok(_)) => *self = Tally::opened(heap, opening),
-            Answer::Count(Err(refusal)) if refusal.reason == Reason::PowerLost => {
+            Told::Count(Ok(_)) => *self = Tally::opened(heap, opening),
+            Told::Count(Err(refusal)) if refusal.reason == Reason::PowerLost => {
                 self.known = false;
             }
             _ => {}
@@ -132,8 +135,8 @@ impl Tally {
     }
 
     /// An accepted attach settles the change in doubt.
-    pub(crate) fn attach<B: Book>(&mut self, book: &B, answer: Answer) -> Result<(), AllocError> {
-        if let Answer::Count(Ok(count)) = answer {
+    pub(crate) fn attach<B: Book>(&mut self, book: &B, answer: Told) -> Result<(), AllocError> {
+        if let Told::Count(Ok(count)) = answer {
             let one_more = count == (self.records.len() as u64).saturating_add(1);
             if let Some(entry) = self.doubt.take().filter(|_| one_more) {
                 self.make(book, entry)?;
@@ -150,9 +153,9 @@ impl Tally {
         opening: &[u64],
         tray: &mut Tray<'a>,
         command: Command<'a>,
-        answer: Answer,
+        answer: Told,
     ) -> Result<(), AllocError> {
-        if let Command::Attach = command {
+        if let Command::Plain(Plain::Attach) = command {
             return self.attach(book, answer);
         }
         if let Command::Format { .. } = command {
@@ -163,8 +166,8 @@ impl Tally {
             return Ok(());
         };
         match answer {
-            Answer::Count(Ok(_)) => self.make(book, entry)?,
-            Answer::Count(Err(refusal)) if refusal.reason == Reason::PowerLost => {
+            Told::Count(Ok(_)) => self.make(book, entry)?,
+            Told::Count(Err(refusal)) if refusal.reason == Reason::PowerLost => {
                 if refusal.place == 3 {
                     self.make(book, entry)?;
                 } else if refusal.place == 2 {

@@ -1,3 +1,4 @@
 pub mod Bytes
 pub mod Schedule
 pub mod State
+pub mod Laws

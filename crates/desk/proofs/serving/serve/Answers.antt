@@ -8,41 +8,41 @@ use Rattle.desk.proofs.Sessions.{begins, goes_on, served, one_more, none_left}
 use Rattle.desk.proofs.serving.serve.Goals as goal
 
 -- no call was made, and there is room for all
-pub loop-call-init : goal.loop-call-init
-loop-call-init g c =
+pub loop-request-init : goal.loop-request-init
+loop-request-init g c =
     let m : Meaning = g.B.Book.meaning in
     let s : Machine = c.args.monitor.now in (
       tt,
       tt,
-      c.into_iter-call-iterator.ensures.into_iter_gives.0,
+      c.into_iter-request-iterator.ensures.into_iter_gives.0,
       grind arith,
       omega (arith, c.in_ok-tray.ensures.len),
-      c.in_ok-answers.ensures.len,
+      c.in_ok-told.ensures.len,
       search rules,
       search rules,
-      ([], begins m (opened_with s) _ _ c.in_ok-answers.ensures.items (ap tickets_of c.in_ok-tray.ensures.items)),
+      ([], begins m (opened_with s) _ _ c.in_ok-told.ensures.items (ap tickets_of c.in_ok-tray.ensures.items)),
     )
 
 pub answer-requires : goal.answer-requires
 answer-requires g c =
-    let (a, b, all, left, few, told, room, places, past) = c.loop-call.invariant in
-    record { room = omega (arith, one_more c.loop-call.yielded (into_iter_items c.loop-call.call-iterator) (into_iter_items c.next.new.self) c.args.calls.items c.in-Some.call all c.in-Some.ensures.steps.0, few, room) }
+    let (a, b, all, left, few, told, room, places, past) = c.loop-request.invariant in
+    record { room = omega (arith, one_more c.loop-request.yielded (into_iter_items c.loop-request.request-iterator) (into_iter_items c.next.new.self) c.args.requests.items c.in-Some.request all c.in-Some.ensures.steps.0, few, room) }
 
 pub push_reserved-requires : goal.push_reserved-requires
 push_reserved-requires g c =
-    let (a, b, all, left, few, told, room, places, past) = c.loop-call.invariant in
-    omega (arith, one_more c.loop-call.yielded (into_iter_items c.loop-call.call-iterator) (into_iter_items c.next.new.self) c.args.calls.items c.in-Some.call all c.in-Some.ensures.steps.0, told, places)
+    let (a, b, all, left, few, told, room, places, past) = c.loop-request.invariant in
+    omega (arith, one_more c.loop-request.yielded (into_iter_items c.loop-request.request-iterator) (into_iter_items c.next.new.self) c.args.requests.items c.in-Some.request all c.in-Some.ensures.steps.0, told, places)
 
 -- one call more was made
-pub loop-call-preserved : goal.loop-call-preserved
-loop-call-preserved g c =
+pub loop-request-preserved : goal.loop-request-preserved
+loop-request-preserved g c =
     let m : Meaning = g.B.Book.meaning in
     let s0 : Machine = c.args.monitor.now in
-    let s : Machine = c.loop-call.monitor in
+    let s : Machine = c.loop-request.monitor in
     let t : Machine = c.answer.new.monitor in
-    let (a, b, all, left, few, told, room, places, past) = c.loop-call.invariant in
-    let ys = c.loop-call.yielded in
-    let x = c.in-Some.call in
+    let (a, b, all, left, few, told, room, places, past) = c.loop-request.invariant in
+    let ys = c.loop-request.yielded in
+    let x = c.in-Some.request in
     let longer : length (ys ++ (x ∷ [])) ≡ length ys + 1 = length-append ys (x ∷ []) in (
       tt,
       tt,
@@ -52,7 +52,7 @@ loop-call-preserved g c =
       omega (arith, longer, c.push_reserved.ensures.len, told),
       omega (arith, c.answer.ensures.capacity, room),
       omega (arith, c.push_reserved.ensures.capacity, places),
-      goes_on m (opened_with s0) ys x _ _ c.answer.result s t _ _ past c.answer.ensures.answered c.push_reserved.ensures.items,
+      goes_on m (opened_with s0) ys x _ _ c.answer.result s t _ _ past c.answer.ensures.asks c.push_reserved.ensures.items,
     )
 
 -- all were made
@@ -60,7 +60,7 @@ pub returns-clause-served : goal.returns-clause-served
 returns-clause-served g c =
     let m : Meaning = g.B.Book.meaning in
     let s : Machine = c.args.monitor.now in
-    let t : Machine = c.loop-call.monitor in
-    let (a, b, all, left, few, told, room, places, past) = c.loop-call.invariant in
-    let full : length c.loop-call.yielded ≡ length c.args.calls.items = omega (arith, left, c.in-None.ensures.steps.0) in
-    served c.every_history_is_lawful.ensures.holds m g.met.B.Book.step_tests g.met.B.Book.step_gives_codes s t c.loop-call.yielded c.args.calls.items _ _ _ all (none_left _ _ _ all full) past
+    let t : Machine = c.loop-request.monitor in
+    let (a, b, all, left, few, told, room, places, past) = c.loop-request.invariant in
+    let full : length c.loop-request.yielded ≡ length c.args.requests.items = omega (arith, left, c.in-None.ensures.steps.0) in
+    served c.every_history_is_lawful.ensures.holds m g.met.B.Book.step_tests g.met.B.Book.step_gives_codes s t c.loop-request.yielded c.args.requests.items _ _ _ all (none_left _ _ _ all full) past

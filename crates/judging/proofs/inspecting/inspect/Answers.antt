@@ -1,4 +1,4 @@
-use Rattle.std.proofs.Common.{◌≡◌, true, Ok, subst, rules, tests}
+use Rattle.std.proofs.Common.{◌≡◌, true, Ok, Err, subst, rules, tests}
 use Rattle.std.specs.Prelude.{MatchResult}
 use Rattle.journals.specs.Outcomes.{PowersOn, Finishes}
 use Rattle.journals.specs.State.{size}
@@ -15,7 +15,7 @@ returns-in_err-map_err-2 g c =
     let e = c.finish.new.self in
     let fits : lawful_size (size d) ≡ true = search (rules, tests) in
     let on : c.power.result ≡ Ok tt = search (rules, tests) in
-    let says : MatchResult c.finish.result (λ _. ⊥) (λ x. c.from_residual-in_err-map_err-2.result ≡ unfinished_for x) = search (rules, tests) in
+    let says : MatchResult c.finish.result (λ _. ⊥) (λ x. c.from_residual-in_err-map_err-2.result ≡ Err (unfinished_for x)) = search (rules, tests) in
     let powers = subst (λ z. PowersOn d z p) on c.power.ensures.powers in
     let met = inspect_refused g.B.Book.meaning d p e fits powers c.finish.result _ c.finish.ensures.finishes says in
     record { inspects = inspects_on g.B.Book.meaning d p e fits powers _ met; powers_up = λ _ _. met }

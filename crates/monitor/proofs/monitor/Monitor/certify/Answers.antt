@@ -3,10 +3,9 @@ use Rattle.std.proofs.lemmas.Result.{err_from_is_err_and}
 use Rattle.records.specs.declared.record.Record.TheVariants.{Certification}
 use Rattle.carrying.specs.Rows.{certified}
 use Rattle.carrying.specs.Standing.{standing_of}
-use Rattle.monitor.specs.declared.stage.CallKind.TheVariants.{Working}
 use Rattle.monitor.specs.Calls.{certification}
 use Rattle.monitor.specs.Machine.{Machine}
-use Rattle.monitor.specs.Stages.{admitted}
+use Rattle.monitor.specs.Stages.{may_work}
 use Rattle.monitor.proofs.Made.{certifying_so_far, changes_made, changes_refused}
 use Rattle.monitor.proofs.monitor.Monitor.certify.Goals as goal
 
@@ -16,7 +15,7 @@ returns-in_err-held g c =
     let m = g.B.Book.meaning in
     let s : Machine = c.args.self.now in
     let p = err_from_is_err_and c.from_residual-in_err-held.result c.from_residual-in_err-held.ensures.1 in
-    let admits = c.in_ok-admit.ensures.value ∙ ap (λ z. admitted z Working) c.stage.ensures.value in
+    let admits = c.in_ok-admit.ensures.value ∙ ap may_work c.stage.ensures.value in
     let is = certifying_so_far m s c.args.word.now c.args.draft c.reader-reader.result c.reader-reader.ensures.value admits c.in_ok-identify.ensures.value in
     record {
       certifies = record {
@@ -30,7 +29,7 @@ pub returns : goal.returns
 returns g c =
     let m = g.B.Book.meaning in
     let s : Machine = c.args.self.now in
-    let admits = c.in_ok-admit.ensures.value ∙ ap (λ z. admitted z Working) c.stage.ensures.value in
+    let admits = c.in_ok-admit.ensures.value ∙ ap may_work c.stage.ensures.value in
     let is = certifying_so_far m s c.args.word.now c.args.draft c.reader-reader.result c.reader-reader.ensures.value admits c.in_ok-identify.ensures.value in
     record {
       certifies = record {

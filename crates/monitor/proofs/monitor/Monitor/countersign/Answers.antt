@@ -6,16 +6,15 @@ use Rattle.notes.specs.Notes.{IsNote}
 use Rattle.journals.specs.State as journal
 use Rattle.records.specs.declared.record.Posting.{Posting as PostingRecord}
 use Rattle.records.specs.declared.record.Record.TheVariants.{Posting}
-use Rattle.carrying.specs.Carried.{posted, posting_of}
+use Rattle.carrying.specs.Carried.{posted}
 use Rattle.carrying.specs.Standing.{Standing, standing_of}
 use Rattle.image.specs.Home.{head_on, standing_with}
 use Rattle.image.specs.Layout.{room}
 use Rattle.monitor.specs.declared.entered.Entered.{Entered}
-use Rattle.monitor.specs.declared.stage.CallKind.TheVariants.{Working}
 use Rattle.monitor.specs.Calls.{posting}
 use Rattle.monitor.specs.Machine.{Machine}
-use Rattle.monitor.specs.Slips.{Paper}
-use Rattle.monitor.specs.Stages.{admitted}
+use Rattle.monitor.specs.Slips.{Paper, posting_by}
+use Rattle.monitor.specs.Stages.{may_work}
 use Rattle.monitor.proofs.Made.{countersigned_so_far, changes_made, changes_refused}
 use Rattle.monitor.proofs.monitor.Monitor.countersign.Goals as goal
 
@@ -65,9 +64,9 @@ returns-in_err-held g c =
     let p = err_from_is_err_and c.from_residual-in_err-held.result c.from_residual-in_err-held.ensures.1 in
     let same : c.spend.new.self.entered ≡ slip = ap (λ (z : Paper). z.entered) c.spend.ensures.spent in
     let read : c.entered-entered.result ≡ slip = c.entered-entered.ensures.value ∙ same in
-    let admits = c.in_ok-admit.ensures.value ∙ ap (λ z. admitted z Working) c.stage.ensures.value in
+    let admits = c.in_ok-admit.ensures.value ∙ ap may_work c.stage.ensures.value in
     let is = countersigned_so_far m s c.args.user c.args.word.now slip c.entered-entered.result c.reader-reader.result c.head-head.result c.reader-reader.ensures.value c.head-head.ensures.value read admits c.in_ok-check_slip.ensures.value c.in_ok-identify.ensures.value in
-    let x : Entered → PostingRecord = λ z. posting_of z.numbers z.enterer c.args.user in
+    let x : Entered → PostingRecord = λ z. posting_by z c.args.user in
     let gives = gives_also m (room (journal.size c.reader-reader.result)) (standing_with (journal.home_of c.reader-reader.result) c.head-head.result.count) x same c.in_err-held.ensures.gives in
     record {
       countersigns = record {
@@ -84,9 +83,9 @@ returns g c =
     let slip : Entered = c.args.slip.entered in
     let same : c.spend.new.self.entered ≡ slip = ap (λ (z : Paper). z.entered) c.spend.ensures.spent in
     let read : c.entered-entered.result ≡ slip = c.entered-entered.ensures.value ∙ same in
-    let admits = c.in_ok-admit.ensures.value ∙ ap (λ z. admitted z Working) c.stage.ensures.value in
+    let admits = c.in_ok-admit.ensures.value ∙ ap may_work c.stage.ensures.value in
     let is = countersigned_so_far m s c.args.user c.args.word.now slip c.entered-entered.result c.reader-reader.result c.head-head.result c.reader-reader.ensures.value c.head-head.ensures.value read admits c.in_ok-check_slip.ensures.value c.in_ok-identify.ensures.value in
-    let x : Entered → PostingRecord = λ z. posting_of z.numbers z.enterer c.args.user in
+    let x : Entered → PostingRecord = λ z. posting_by z c.args.user in
     let gives = gives_also m (room (journal.size c.reader-reader.result)) (standing_with (journal.home_of c.reader-reader.result) c.head-head.result.count) x same c.in_ok-held.ensures.gives in
     let record_is = ap Posting (c.posting.ensures.value ∙ ap x same) in
     record {

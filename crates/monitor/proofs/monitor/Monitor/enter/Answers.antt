@@ -2,8 +2,7 @@ use Rattle.std.proofs.Common.{Ok, refl, sym, ap, ◌∙◌, arith}
 use Rattle.std.proofs.lemmas.Result.{err_from_is_err_and}
 use Rattle.notes.specs.declared.numbers.Numbers.{Numbers}
 use Rattle.layout.specs.declared.head.Head.{Head}
-use Rattle.monitor.specs.declared.stage.CallKind.TheVariants.{Working}
-use Rattle.monitor.specs.Stages.{admitted}
+use Rattle.monitor.specs.Stages.{may_work}
 use Rattle.journals.specs.State.{home_of}
 use Rattle.image.specs.Home.{house_on}
 use Rattle.monitor.specs.Slips.{unspent, handed_out}
@@ -15,7 +14,7 @@ pub returns-in_err-check_enterer : goal.returns-in_err-check_enterer
 returns-in_err-check_enterer g c =
     let a = c.args in
     let p = err_from_is_err_and c.from_residual-in_err-check_enterer.result c.from_residual-in_err-check_enterer.ensures.1 in
-    let is = entered_so_far g.B.Book.meaning a.self.now a.user a.word.now a.note c.reader-reader.result c.numbers-numbers.result _ c.reader-reader.ensures.value c.numbers-numbers.ensures.value (c.in_ok-admit.ensures.value ∙ ap (λ z. admitted z Working) c.stage.ensures.value) c.in_ok-check_kind.ensures.value c.in_ok-identify.ensures.value c.in_err-check_enterer.ensures.value in
+    let is = entered_so_far g.B.Book.meaning a.self.now a.user a.word.now a.note c.reader-reader.result c.numbers-numbers.result _ c.reader-reader.ensures.value c.numbers-numbers.ensures.value (c.in_ok-admit.ensures.value ∙ ap may_work c.stage.ensures.value) c.in_ok-check_kind.ensures.value c.in_ok-identify.ensures.value c.in_err-check_enterer.ensures.value in
     record { answer = rw (p.1, p.2) (sym (ap handed_out is)) }
 
 -- a user is one of 16
@@ -26,7 +25,7 @@ overflow_cast-user g c = record { fits = omega (arith, c.in_ok-identify.ensures.
 pub returns : goal.returns
 returns g c =
     let a = c.args in
-    let is = entered_so_far g.B.Book.meaning a.self.now a.user a.word.now a.note c.reader-reader.result c.numbers-numbers.result _ c.reader-reader.ensures.value c.numbers-numbers.ensures.value (c.in_ok-admit.ensures.value ∙ ap (λ z. admitted z Working) c.stage.ensures.value) c.in_ok-check_kind.ensures.value c.in_ok-identify.ensures.value c.in_ok-check_enterer.ensures.value in
+    let is = entered_so_far g.B.Book.meaning a.self.now a.user a.word.now a.note c.reader-reader.result c.numbers-numbers.result _ c.reader-reader.ensures.value c.numbers-numbers.ensures.value (c.in_ok-admit.ensures.value ∙ ap may_work c.stage.ensures.value) c.in_ok-check_kind.ensures.value c.in_ok-identify.ensures.value c.in_ok-check_enterer.ensures.value in
     record {
       answer =
           ap Ok

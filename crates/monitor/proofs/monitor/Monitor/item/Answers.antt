@@ -1,7 +1,6 @@
 use Rattle.std.proofs.Common.{ap, ◌∙◌}
 use Rattle.refusals.specs.declared.reasons.Reason.TheVariants.{NoSuchEntry}
-use Rattle.monitor.specs.declared.stage.CallKind.TheVariants.{Working}
-use Rattle.monitor.specs.Stages.{admitted}
+use Rattle.monitor.specs.Stages.{may_work}
 use Rattle.monitor.proofs.Tests.{item_found, refusal_is}
 use Rattle.monitor.proofs.monitor.Monitor.item.Goals as goal
 
@@ -11,5 +10,5 @@ returns g c =
     record {
       answer =
           c.ok_or.ensures.value
-          ∙ item_found c.args.self.now c.reader.result c.reader.ensures.value (c.in_ok-admit.ensures.value ∙ ap (λ z. admitted z Working) c.stage.ensures.value) c.args.item _ _ c.code.ensures.value none;
+          ∙ item_found c.args.self.now c.reader.result c.reader.ensures.value (c.in_ok-admit.ensures.value ∙ ap may_work c.stage.ensures.value) c.args.item _ _ c.code.ensures.value none;
     }

@@ -1,20 +1,21 @@
 use Rattle.std.proofs.Common.{◌≡◌, ◌+◌, ◌<◌, refl, subst, sym, ap, ◌∙◌, List, arith}
-use Rattle.refusals.specs.Refused.{lost_at}
+use Rattle.refusals.specs.declared.reasons.Reason.TheVariants.{PowerLost}
 use Rattle.changes.specs.declared.change.Home.{Home}
 use Rattle.journals.specs.declared.journal.ChangeFault.{ChangeFault}
 use Rattle.journals.specs.declared.journal.ChangeFault.TheVariants as change-fault
 use Rattle.journals.specs.declared.place.Place.{Place}
 use Rattle.journals.specs.declared.place.Place.TheVariants.{Staging}
+use Rattle.journals.specs.Numbers.{place_number}
 use Rattle.journals.specs.Outcomes.{Made, CutChange}
 use Rattle.journals.specs.State.{State, size}
 use Rattle.layout.specs.declared.head.Head.{Head}
 use Rattle.carrying.specs.Standing.{Standing, standing_of}
 use Rattle.image.specs.Laws.{size_low, size_high}
 use Rattle.monitor.specs.declared.stage.Stage.TheVariants.{Open}
-use Rattle.monitor.specs.Calls.{power_place_of}
 use Rattle.monitor.specs.Changing.{change_for}
 use Rattle.monitor.specs.Machine.{Machine, machine, room_of}
 use Rattle.monitor.proofs.Made.{changed_count, made_steady}
+use Rattle.monitor.proofs.Tests.{refusal_is}
 use Rattle.monitor.proofs.monitor.Monitor.make.Goals as goal
 
 -- the change was made, and there was room for its record
@@ -72,7 +73,7 @@ returns-in-Err-Cut g c =
     record {
       makes = record {
         place = met.0;
-        answer = c.power_lost.ensures.value ∙ ap lost_at (c.power_place.ensures.value ∙ ap power_place_of (c.in-Err-Cut.place-is ∙ sym named));
+        answer = refusal_is c.at.result PowerLost (place_number met.0) c.at.ensures.names_reason (c.at.ensures.names_place ∙ c.into.ensures ∙ ap place_number (c.in-Err-Cut.place-is ∙ sym named));
         stage = refl;
         cut = subst (λ (z : Machine). CutChange met.0 homes z.disk e) is cut;
       };

@@ -5,8 +5,7 @@ use Rattle.layout.specs.declared.head.Head.{Head}
 use Rattle.journals.specs.State.{size, home_of}
 use Rattle.image.specs.Home.{count_on}
 use Rattle.image.specs.Layout.{room}
-use Rattle.monitor.specs.declared.stage.CallKind.TheVariants.{Working}
-use Rattle.monitor.specs.Stages.{admitted}
+use Rattle.monitor.specs.Stages.{may_work}
 use Rattle.monitor.proofs.Tests.{record_found, refusal_is}
 use Rattle.monitor.proofs.monitor.Monitor.record.Goals as goal
 
@@ -22,6 +21,6 @@ returns g c =
     record {
       answer =
           c.ok_or.ensures.value
-          ∙ record_found c.args.self.now d c.reader-reader.ensures.value (c.in_ok-admit.ensures.value ∙ ap (λ z. admitted z Working) c.stage.ensures.value) (room (size d)) k _ _ counted
+          ∙ record_found c.args.self.now d c.reader-reader.ensures.value (c.in_ok-admit.ensures.value ∙ ap may_work c.stage.ensures.value) (room (size d)) k _ _ counted
           (omega (arith, few, c.reader-reader.ensures.steady.found_room)) c.record.ensures.value none;
     }

@@ -1,0 +1,49 @@
+-- The parts of a day, by what each makes of the bytes that it is handed.
+use Rattle.std.specs.Prelude.{◌≡◌, ℕ, List, vec_items, Result, MatchResult}
+use Rattle.std.specs.declared.alloc.AllocError.{AllocError}
+use Rattle.books.specs.Meaning.{Meaning}
+use Rattle.trial.specs.Bytes.{blocks_of}
+use Rattle.script.specs.Reading.{Gathered}
+use Rattle.monitor.specs.Machine.{Machine}
+use Rattle.journals.specs.State.{TakenOver}
+use Rattle.desk.specs.declared.told.Told.{Told}
+use Rattle.desk.specs.Serving.{Requested, Served}
+use Rattle.day.specs.declared.keeping.Day.{Day}
+use Rattle.day.specs.Keeping.{shut_over, blocks_on, every_record, KeptOr}
+use Rattle.day.specs.Planning.{first_requests}
+
+-- bytes that were taken back from a monitor: they are the blocks of its drive, and a fresh trial drive of them takes it over
+pub record TakenBack (s : Machine) (left : List ℕ) : Type 0 where
+  pub same : blocks_of left ≡ blocks_on s
+  pub takes_over : TakenOver s.disk (shut_over (blocks_of left)).disk
+
+-- the rig was formatted
+abbrev pub Begun : Meaning → List ℕ → Gathered → List Told → List ℕ → Type 0
+Begun m bytes g firsts left =
+    (s : Machine) × Served m (shut_over (blocks_of bytes)) (first_requests g) firsts s × TakenBack s left
+
+-- requests and looks, on a monitor
+pub record Looked (m : Meaning) (s : Machine) (requests : List Requested) (told looks : List Told) (t : Machine) : Type 0 where
+  pub closed : Machine
+  pub requests_served : Served m s requests told closed
+  pub looks_served : Served m closed every_record looks t
+
+-- the same, where memory was wanted
+pub data Stopped (m : Meaning) (s : Machine) (requests : List Requested) (t : Machine) : Type 0 where
+  unserved : t ≡ s → Stopped m s requests t
+  unlooked : {told : List Told} → Served m s requests told t → Stopped m s requests t
+
+-- a day that went on, from a monitor to another, after what was told of the format
+abbrev pub GoesOn : Meaning → Machine → List Requested → List Told → Result Day AllocError → Machine → Type 0
+GoesOn m s requests firsts r t =
+    MatchResult r
+    (λ d. (vec_items d.firsts ≡ firsts) × (d.stage ≡ t.stage) × Looked m s requests (vec_items d.told) (vec_items d.looks) t)
+    (λ _. Stopped m s requests t)
+
+-- the same, with the bytes of the drive taken back
+abbrev pub WentOn : Meaning → Machine → List Requested → List Told → Result Day AllocError → List ℕ → Type 0
+WentOn m s requests firsts r left = (t : Machine) × GoesOn m s requests firsts r t × (blocks_of left ≡ blocks_on t)
+
+-- all parts, on bytes
+abbrev pub KeptOn : Meaning → List ℕ → Gathered → List Requested → Result Day AllocError → List ℕ → Type 0
+KeptOn m bytes g requests r left = KeptOr m (blocks_of bytes) g requests r (blocks_of left)
