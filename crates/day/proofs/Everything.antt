@@ -12,7 +12,7 @@ use Rattle.day.specs.declared.reply.Source.TheVariants.{Format, Attach, Line}
 use Rattle.day.specs.declared.reply.Said.{Said}
 use Rattle.day.specs.declared.reply.Reply.{Reply}
 use Rattle.day.specs.Keeping.{Kept}
-use Rattle.day.specs.Planning.{planned, asks, said_at_once, first_requests, requests_of, expected_of, all_expected}
+use Rattle.day.specs.Planning.{planned, asks, said_at_once, requests_of, expected_of, all_expected}
 use Rattle.day.specs.Replies.{replies_of}
 use Rattle.day.specs.Running.{all_sources}
 

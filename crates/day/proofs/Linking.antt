@@ -1,7 +1,7 @@
 -- The parts of a day one after another, and the history of them all.
-use Rattle.std.proofs.Common.{◌≡◌, ℕ, Bool, false, List, [], ◌++◌, Ok, Err, Result, IfOk, OnErr, refl, sym, ap, subst, ◌∙◌}
+use Rattle.std.proofs.Common.{◌≡◌, ℕ, Bool, false, List, Ok, Err, Result, IfOk, refl, sym, ap, subst, ◌∙◌}
 use Rattle.std.specs.declared.alloc.AllocError.{AllocError}
-use Rattle.std.specs.Prelude.{MatchResult, vec_items}
+use Rattle.std.specs.Prelude.{vec_items}
 use Rattle.books.specs.Meaning.{Meaning}
 use Rattle.drives.specs.Disk.{Disk, May}
 use Rattle.trial.specs.Bytes.{blocks_of, disk_with, disk_of}
@@ -17,7 +17,7 @@ use Rattle.day.specs.declared.keeping.Day.{Day}
 use Rattle.day.specs.declared.keeping.Left.{Left}
 use Rattle.day.specs.Running.{new_drive, KeptNew}
 use Rattle.day.specs.Keeping.{shut_over, blocks_on, every_record, Kept, KeptAs, KeptOr, KeepsDay, BrokenOff, before_format, before_requests, before_looks}
-use Rattle.day.specs.Parts.{TakenBack, Begun, Looked, Stopped, unserved, unlooked, GoesOn, WentOn, KeptOn}
+use Rattle.day.specs.Parts.{TakenBack, Begun, Stopped, unserved, unlooked, GoesOn, WentOn}
 use Rattle.day.specs.Planning.{first_requests}
 
 -- a fresh trial drive on the bytes of another takes it over
@@ -62,15 +62,10 @@ taken_back d left s p q =
           (subst (λ z. journal.TakenOver (disk d) (disk_of false z)) (sym q) (takes_over d.on d.bytes));
     }
 
--- what holds of an answer that is no refusal
-pub if_ok : {X E : Type 0} (r : Result X E) (P Q : X → Type 0) → ((x : X) → P x → Q x) → IfOk r P → IfOk r Q
-if_ok (Ok x) P Q f p = f x p
-if_ok (Err e) P Q f p = tt
-
 -- the day went on from what the first part left
 pub goes_on :
     (m : Meaning) (bytes left after : List ℕ) (g : Gathered) (requests : List Requested) (firsts : List Told) (r : Result Day AllocError)
-    → Begun m bytes g firsts left → WentOn m (shut_over (blocks_of left)) requests firsts r after → KeptOn m bytes g requests r after
+    → Begun m bytes g firsts left → WentOn m (shut_over (blocks_of left)) requests firsts r after → KeptOr m (blocks_of bytes) g requests r (blocks_of after)
 goes_on m bytes left after g requests firsts (Ok d) (s, starts, back) (t, (is, at, k), same) =
     let here : shut_over (blocks_of left) ≡ shut_over (blocks_on s) = ap shut_over back.same in
     let over : journal.TakenOver s.disk (disk_with false (blocks_on s)) = subst (λ z. journal.TakenOver s.disk (disk_with false z)) back.same back.takes_over in
@@ -87,15 +82,8 @@ goes_on m bytes left after g requests firsts (Err e) (s, starts, back) (t, stopp
 -- memory was wanted before the format
 pub never_begun :
     (m : Meaning) (bytes left : List ℕ) (g : Gathered) (requests : List Requested) (e : AllocError)
-    → blocks_of left ≡ blocks_of bytes → KeptOn m bytes g requests (Err e) left
+    → blocks_of left ≡ blocks_of bytes → KeptOr m (blocks_of bytes) g requests (Err e) (blocks_of left)
 never_begun m bytes left g requests e same = subst (BrokenOff m (blocks_of bytes) g requests) (sym same) before_format
-
--- by an answer
-pub begun_with : {X E : Type 0} (r : Result X E) (x : X) (P : X → Type 0) → r ≡ Ok x → IfOk r P → P x
-begun_with r x P e k = subst (λ z. IfOk z P) e k
-
-pub unbegun_with : {X E : Type 0} (r : Result X E) (x : E) (P : Type 0) → r ≡ Err x → OnErr r P → P
-unbegun_with r x P e k = subst (λ z. OnErr z P) e k
 
 -- a day that stopped, by its answer
 pub stopped_as :

@@ -1,9 +1,9 @@
 -- Looks at records, one after another: they change nothing, and show the records of the tally.
-use Rattle.std.proofs.Common.{◌≡◌, ℕ, ◌+◌, ◌<◌, ◌≤◌, zero, suc, Bool, true, false, ◌&&◌, nat_le, List, [], ◌∷◌, ◌++◌, map, take, Some, None, Ok, Option, IfSome, refl, sym, ap, subst, ◌∙◌, arith}
+use Rattle.std.proofs.Common.{◌≡◌, ℕ, ◌+◌, ◌<◌, ◌≤◌, zero, suc, Bool, true, false, nat_le, List, [], ◌∷◌, ◌++◌, map, take, Some, None, Ok, Option, IfSome, refl, sym, ap, subst, ◌∙◌, arith}
 use Rattle.std.specs.List.{list_all, range_with_len}
 use Rattle.std.proofs.lemmas.List.{map-append}
 use Rattle.std.proofs.lemmas.List.Folds.{list_all-append}
-use Rattle.std.proofs.lemmas.Bool.{le-leb, lt-leb}
+use Rattle.std.proofs.lemmas.Bool.{and_parts, le-leb, lt-leb}
 use Rattle.books.specs.Meaning.{Meaning}
 use Rattle.journals.specs.State.{State}
 use Rattle.records.specs.declared.record.Record.{Record}
@@ -39,11 +39,6 @@ shut_is_open e = let z : ◌≡◌ {A = ℕ} 0 1 = cc in omega arith
 never : {X : Type 0} → false ≡ true → X
 never e = absurd cc
 
-both : (x y : Bool) → (x && y) ≡ true → (x ≡ true) × (y ≡ true)
-both true true e = (refl, refl)
-both true false e = never e
-both false y e = never e
-
 module _ (m : Meaning) where
   one_look :
       (u v : Desk) (c : Requested) (a : Told) → is_look c ≡ true → Serves m u c a v
@@ -64,9 +59,9 @@ module _ (m : Meaning) where
       → (rs ≡ map (look_at w.machine) cs) × (v.machine ≡ w.machine)
   looked w cs rs v begun e = (refl, refl)
   looked w cs rs v (then {qs = ds} {rs = ss} {u = u} c a h k) e =
-      let split = both (list_all is_look ds) (list_all is_look (c ∷ [])) (sym (list_all-append is_look ds (c ∷ [])) ∙ e) in
+      let split = and_parts (list_all is_look ds) (list_all is_look (c ∷ [])) (sym (list_all-append is_look ds (c ∷ [])) ∙ e) in
       let before = looked w ds ss u h split.0 in
-      let last = both (is_look c) true split.1 in
+      let last = and_parts (is_look c) true split.1 in
       let now = one_look u v c a last.0 k in
       let shown : a ≡ look_at w.machine c = now.0 ∙ ap (λ z. look_at z c) before.1 in
       (ap (λ z. z ++ (a ∷ [])) before.0 ∙ ap (λ z. map (look_at w.machine) ds ++ (z ∷ [])) shown ∙ sym (map-append (look_at w.machine) ds (c ∷ [])), now.1 ∙ before.1)

@@ -5,7 +5,6 @@ use Rattle.std.specs.List.{concat, range_with_len}
 use Rattle.std.specs.declared.alloc.AllocError.{AllocError}
 use Rattle.books.specs.Meaning.{Meaning}
 use Rattle.trial.specs.Bytes.{blocks_of, behind_blocks, disk_with}
-use Rattle.calls.specs.Plain.{LooksAtRecord}
 use Rattle.script.specs.Reading.{Gathered}
 use Rattle.monitor.specs.declared.stage.Stage.TheVariants.{Shut}
 use Rattle.monitor.specs.Machine.{Machine, machine}
@@ -16,7 +15,7 @@ use Rattle.calls.specs.declared.Plain.TheVariants as plain
 use Rattle.desk.specs.declared.request.Request.{Request}
 use Rattle.desk.specs.declared.request.Request.TheVariants as request
 use Rattle.desk.specs.declared.told.Told.{Told}
-use Rattle.desk.specs.Serving.{Requested, Plainly, Served}
+use Rattle.desk.specs.Serving.{Requested, requested, Served}
 use Rattle.day.specs.declared.keeping.Day.{Day}
 use Rattle.day.specs.declared.keeping.Left.{Left}
 use Rattle.day.specs.Planning.{first_requests}
@@ -29,12 +28,12 @@ shut_over bs = machine Shut (disk_with false bs)
 abbrev pub blocks_on : Machine → List (List ℕ)
 blocks_on s = blocks s.disk
 
--- a look at a record, and at each for which a drive of 64 blocks has room
-abbrev pub look : ℕ → Request
-look k = request.Plain (plain.Record k)
+-- a look at each record for which a drive of 64 blocks has room
+abbrev pub every_look : List Request
+every_look = map (λ k. request.Plain (plain.Record k)) (range_with_len 1 30)
 
 abbrev pub every_record : List Requested
-every_record = map (λ k. Plainly (LooksAtRecord k)) (range_with_len 1 30)
+every_record = map requested every_look
 
 -- the history of three parts, one after another: the drive of the second takes the first one's place
 abbrev pub day_history :

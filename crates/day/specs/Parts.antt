@@ -9,7 +9,7 @@ use Rattle.journals.specs.State.{TakenOver}
 use Rattle.desk.specs.declared.told.Told.{Told}
 use Rattle.desk.specs.Serving.{Requested, Served}
 use Rattle.day.specs.declared.keeping.Day.{Day}
-use Rattle.day.specs.Keeping.{shut_over, blocks_on, every_record, KeptOr}
+use Rattle.day.specs.Keeping.{shut_over, blocks_on, every_record}
 use Rattle.day.specs.Planning.{first_requests}
 
 -- bytes that were taken back from a monitor: they are the blocks of its drive, and a fresh trial drive of them takes it over
@@ -43,7 +43,3 @@ GoesOn m s requests firsts r t =
 -- the same, with the bytes of the drive taken back
 abbrev pub WentOn : Meaning → Machine → List Requested → List Told → Result Day AllocError → List ℕ → Type 0
 WentOn m s requests firsts r left = (t : Machine) × GoesOn m s requests firsts r t × (blocks_of left ≡ blocks_on t)
-
--- all parts, on bytes
-abbrev pub KeptOn : Meaning → List ℕ → Gathered → List Requested → Result Day AllocError → List ℕ → Type 0
-KeptOn m bytes g requests r left = KeptOr m (blocks_of bytes) g requests r (blocks_of left)

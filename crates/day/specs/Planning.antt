@@ -1,5 +1,5 @@
 -- What each command of a script comes to: something that is said at once, or a request to the desk, whose answer is the reply.
-use Rattle.std.specs.Prelude.{ℕ, List, [], ◌∷◌, map, Some, None, Ok, Err, Option, Result}
+use Rattle.std.specs.Prelude.{ℕ, List, [], ◌∷◌, map, Some, None, Ok, Err, vec_items, Option, Result}
 use Rattle.std.specs.List.{flat_map}
 use Rattle.refusals.specs.declared.refusal.Refusal.{Refusal}
 use Rattle.notes.specs.declared.numbers.Numbers.{Numbers}
@@ -15,6 +15,7 @@ use Rattle.day.specs.declared.reply.Source.TheVariants.{Format, Attach, Line}
 use Rattle.day.specs.declared.reply.Said.{Said}
 use Rattle.day.specs.declared.reply.Said.TheVariants.{Note, Refused}
 use Rattle.day.specs.declared.planning.Expected.{Expected}
+use Rattle.day.specs.declared.planning.Plan.{Plan}
 
 -- a note that was typed, made in the book that was chosen above it
 abbrev pub made : TypedNote → Result Numbers Refusal
@@ -30,10 +31,14 @@ abbrev pub entering_of : List ℕ → ℕ → List ℕ → Result Numbers Refusa
 entering_of name user word (Ok n) = Ok (Enters name user word n)
 entering_of name user word (Err e) = Err (Refused e)
 
+-- a format under a house number, with the roll and opening that the script sets up
+abbrev pub format_asked : Gathered → ℕ → Requested
+format_asked g house = Plainly (Formats house g.roll g.opening)
+
 -- what a command comes to: what is asked of the desk, or else what is said at once
 abbrev pub planned : Gathered → Asked → Result Requested Said
 planned g (noting t) = Err (note_said (made t))
-planned g (formatting house) = Ok (Plainly (Formats house g.roll g.opening))
+planned g (formatting house) = Ok (format_asked g house)
 planned g (entering name user word t) = entering_of name user word (made t)
 planned g (countersigning name user word) = Ok (Countersigns name user word)
 planned g (withdrawing name) = Ok (Withdraws name)
@@ -43,6 +48,13 @@ planned g (plainly c) = Ok (Plainly c)
 abbrev pub plan_of : Result Request Said → Result Requested Said
 plan_of (Ok request) = Ok (requested request)
 plan_of (Err said) = Err said
+
+-- what the plan of a day asks of the desk, and the replies that it is to have
+abbrev pub requests_in : Plan → List Requested
+requests_in p = map requested (vec_items p.requests)
+
+abbrev pub expected_in : Plan → List Expected
+expected_in p = vec_items p.expected
 
 -- what a plan asks of the desk: one thing or nothing
 abbrev pub asks : Result Requested Said → List Requested
@@ -56,7 +68,7 @@ said_at_once (Err said) = Some said
 
 -- the first part of a day, on a new drive: it is formatted with what the script sets up
 abbrev pub first_requests : Gathered → List Requested
-first_requests g = Plainly (Formats g.house g.roll g.opening) ∷ []
+first_requests g = format_asked g g.house ∷ []
 
 -- the day's requests: the drive is attached, and then the commands ask in their order
 abbrev pub requests_of : Gathered → List AskedAt → List Requested

@@ -1,13 +1,12 @@
-ghost use Rattle.std.specs.Prelude.{◌≡◌, map, IfOk, OnErr, MatchResult};
+ghost use Rattle.std.specs.Prelude.{◌≡◌, ◌*◌, ◌/◌, map, IfOk, OnErr};
 ghost use Rattle.script.specs.Reading.{gathered_by};
 ghost use Rattle.trial.specs.Bytes.{blocks_of, in_blocks};
 ghost use Rattle.trial.specs.State.{disk};
 ghost use Rattle.monitor.specs.Machine.{machine};
 ghost use Rattle.monitor.specs.declared.stage.Stage.TheVariants.{Shut};
 ghost use Rattle.desk.specs.Serving.{requested};
-ghost use Rattle.std.specs.List.{range_with_len};
-ghost use Rattle.day.specs.Keeping.{look, KeepsDay};
-ghost use Rattle.day.specs.Parts.{Begun, GoesOn, WentOn, KeptOn};
+ghost use Rattle.day.specs.Keeping.{every_look, KeptOr, KeepsDay};
+ghost use Rattle.day.specs.Parts.{Begun, GoesOn, WentOn};
 
 use crate::planning::first_requests;
 use crate::rig::{CutDrive, SteadyDrive};
@@ -39,7 +38,7 @@ pub struct Left<'a> {
 
 /// A look at each record for which a drive of 64 blocks has room.
 fn look_at_every_record<'a>(heap: Global) -> Result<Vec<Request<'a>>, AllocError>
-    ensures asks { IfOk result (λ v. v.items ≡ map look (range_with_len 1 30)) }
+    ensures asks { IfOk result (λ v. v.items ≡ every_look) }
 {
     (1..31)
         .map(|number| Request::Plain(Plain::Record { number }))
@@ -112,8 +111,8 @@ fn keep_on<'a, B: Book + Drop>(
     setup: &'a Setup,
     requests: Vec<Request<'a>>,
 ) -> (&'a mut [u8], Result<Day, AllocError>)
-    ensures kept_on { KeptOn B.meaning bytes.old (gathered_by setup.now)
-        (map requested requests.entry.items) result.1 result.0.now }
+    ensures kept_on { KeptOr B.meaning (blocks_of bytes.old) (gathered_by setup.now)
+        (map requested requests.entry.items) result.1 (blocks_of result.0.now) }
 {
     let (bytes, book, firsts) = begin(heap, book, bytes, setup);
     match firsts {
@@ -122,11 +121,18 @@ fn keep_on<'a, B: Book + Drop>(
     }
 }
 
+/// How many of so many bytes stand in blocks.
+fn bytes_in_blocks(count: usize) -> usize
+    ensures value { result ≡ 64 * (count / 64) }
+{
+    count / 64 * 64
+}
+
 /// The bytes that stand in blocks.
 fn whole_blocks(bytes: &[u8]) -> &[u8]
     ensures value { result.now ≡ in_blocks bytes.now }
 {
-    &bytes[..bytes.len() / 64 * 64]
+    &bytes[..bytes_in_blocks(bytes.len())]
 }
 
 /// Formats a rig on a trial drive over some bytes that never loses power, then does what is asked on a fresh drive over what it
@@ -142,7 +148,7 @@ pub fn keep_day<'a, B: Book + Drop>(
     ensures keeps { KeepsDay B.meaning bytes.old (gathered_by setup.now)
         (map requested requests.entry.items) result.1 result.0 }
 {
-    let whole = bytes.len() / 64 * 64;
+    let whole = bytes_in_blocks(bytes.len());
     let (blocks, behind) = bytes.split_at_mut(whole);
     let (blocks, day) = keep_on(heap, book, blocks, setup, requests);
     let left = Left {

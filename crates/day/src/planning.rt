@@ -3,15 +3,15 @@ ghost use Rattle.script.specs.Said.{asked_by};
 ghost use Rattle.script.specs.Reading.{gathered_by, asked_at};
 ghost use Rattle.desk.specs.Serving.{requested};
 ghost use Rattle.day.specs.declared.reply.Source.TheVariants.{Line};
-ghost use Rattle.day.specs.Planning.{made, note_said, entering_of, planned as plan_by, plan_of, asks, expected_by, first_requests as first_asked, requests_of, all_expected};
+ghost use Rattle.day.specs.Planning.{made, note_said, entering_of, planned as plan_by, plan_of, asks, expected_by, format_asked, first_requests as first_asked, requests_in, expected_in, requests_of, all_expected};
 ghost use Rattle.day.specs.Replies.{said_of, replies_of};
 
-use crate::reply::{Reply, Said, Source};
+use crate::reply::{Reply, Said, Source, refuse_line};
 use calls::Plain;
 use desk::{Request, Told};
 use ledger::Ledger;
 use notes::{Note, make_note};
-use refusals::{Reason, Refusal};
+use refusals::Refusal;
 use script::{BookName, Command, Numbered, Setup, TypedNote};
 use std::alloc::{AllocError, Global};
 use stock::Stock;
@@ -57,17 +57,24 @@ fn plan_entering<'a>(
     }
 }
 
+/// The request to format under a house number, with the roll and opening that the script sets up.
+fn ask_format<'a>(setup: &'a Setup, house: u64) -> Request<'a>
+    ensures value { requested result ≡ format_asked (gathered_by setup.now) house }
+{
+    Request::Plain(Plain::Format {
+        house,
+        roll: setup.roll.as_slice(),
+        opening: setup.opening.as_slice(),
+    })
+}
+
 /// The request that a command comes to, or what is said in reply at once.
 pub fn plan_command<'a>(setup: &'a Setup, command: Command<'a>) -> Result<Request<'a>, Said>
     ensures value { plan_of result ≡ plan_by (gathered_by setup.now) (asked_by command.entry) }
 {
     match command {
         Command::Note(typed) => Err(said_of_note(typed)),
-        Command::Format { house } => Ok(Request::Plain(Plain::Format {
-            house,
-            roll: setup.roll.as_slice(),
-            opening: setup.opening.as_slice(),
-        })),
+        Command::Format { house } => Ok(ask_format(setup, house)),
         Command::Enter {
             slip,
             user,
@@ -101,10 +108,10 @@ pub struct Plan<'a> {
 impl<'a> Plan<'a> {
     /// Adds what a command comes to.
     fn add(&mut self, line: u64, planned: Result<Request<'a>, Said>) -> Result<(), AllocError>
-        ensures requests { OnOk result (map requested self.new.requests.items
-            ≡ map requested self.old.requests.items ++ asks (plan_of planned.entry)) }
-        ensures expected { OnOk result (self.new.expected.items
-            ≡ self.old.expected.items ++ expected_by line (plan_of planned.entry) ∷ []) }
+        ensures requests { OnOk result
+            (requests_in self.new ≡ requests_in self.old ++ asks (plan_of planned.entry)) }
+        ensures expected { OnOk result (expected_in self.new
+            ≡ expected_in self.old ++ expected_by line (plan_of planned.entry) ∷ []) }
     {
         let source = Source::Line(line);
         match planned {
@@ -129,12 +136,7 @@ pub(crate) fn first_requests<'a>(
     ensures asks { IfOk result (λ v.
         map requested v.items ≡ first_asked (gathered_by setup.now)) }
 {
-    let format = Plain::Format {
-        house: setup.house,
-        roll: setup.roll.as_slice(),
-        opening: setup.opening.as_slice(),
-    };
-    Ok(vec![in heap; Request::Plain(format)]?)
+    Ok(vec![in heap; ask_format(setup, setup.house)]?)
 }
 
 /// A reply that is one of the desk's answers.
@@ -150,9 +152,9 @@ pub fn plan_day<'a>(
     setup: &'a Setup,
     commands: &[Numbered<'a>],
 ) -> Result<Plan<'a>, AllocError>
-    ensures requests { IfOk result (λ p. map requested p.requests.items
+    ensures requests { IfOk result (λ p. requests_in p
         ≡ requests_of (gathered_by setup.now) (map asked_at commands.now)) }
-    ensures expected { IfOk result (λ p. p.expected.items
+    ensures expected { IfOk result (λ p. expected_in p
         ≡ all_expected (gathered_by setup.now) (map asked_at commands.now)) }
 {
     let mut plan = Plan {
@@ -170,7 +172,7 @@ fn said_of_told(source: Source, told: Told) -> Said
     ensures value { result ≡ said_of source told }
 {
     match told {
-        Told::NoSuchSlip => Said::NoSlip(Refusal::at(Reason::BadScript, source.line())),
+        Told::NoSuchSlip => Said::NoSlip(refuse_line(source.line())),
         _ => Said::Answered(told),
     }
 }

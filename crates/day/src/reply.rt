@@ -1,4 +1,5 @@
 ghost use Rattle.std.specs.Prelude.{◌≡◌, Some};
+ghost use Rattle.day.specs.Replies.{bad_line};
 ghost use Rattle.day.specs.Texts.{note_text, slip_text, told_text, source_text, said_text, reply_text};
 
 use desk::Told;
@@ -45,6 +46,13 @@ impl Source {
     }
 }
 
+/// The refusal of a line that asks for what cannot be.
+pub(crate) fn refuse_line(line: u64) -> Refusal
+    ensures value { result ≡ bad_line line }
+{
+    Refusal::at(Reason::BadScript, line)
+}
+
 /// A reply: what was said, and to what.
 #[derive(Clone, Copy, PartialEq, Eq, Debug)]
 pub struct Reply {
@@ -61,7 +69,7 @@ impl Reply {
     {
         Reply {
             source: Source::Line(line),
-            said: Said::Refused(Refusal::at(Reason::BadScript, line)),
+            said: Said::Refused(refuse_line(line)),
         }
     }
 }

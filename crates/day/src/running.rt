@@ -2,9 +2,8 @@ ghost use Rattle.std.specs.Prelude.{◌≡◌, ◌++◌, map, IfOk, IsSomeAnd};
 ghost use Rattle.script.specs.Grammar.{meaning_of};
 ghost use Rattle.script.specs.Reading.{gathered_by, asked_at, script_reading};
 ghost use Rattle.desk.specs.Serving.{requested};
-ghost use Rattle.day.specs.Running.{KeptNew};
 ghost use Rattle.day.specs.Replies.{replies_of};
-ghost use Rattle.day.specs.Running.{new_drive, Shows, RunsOn, Runs};
+ghost use Rattle.day.specs.Running.{KeptNew, Shows, RunsOn, Runs};
 
 use crate::audit::Audit;
 use crate::instances::keep_day_of;

@@ -1,5 +1,5 @@
 -- Requests at the desk: each moves the monitor, the tray and what happened as its definition says.
-use Rattle.std.proofs.Common.{◌≡◌, ℕ, List, ◌∷◌, ◌++◌, [], Some, None, Ok, Option, refl, sym, ap, subst, ◌∙◌}
+use Rattle.std.proofs.Common.{◌≡◌, ℕ, List, ◌∷◌, ◌++◌, [], Some, None, refl, sym, ap, subst}
 use Rattle.books.specs.Meaning.{Meaning, StepTests, StepGivesCodes}
 use Rattle.monitor.specs.declared.entered.Entered.{Entered}
 use Rattle.monitor.specs.Machine.{Machine}

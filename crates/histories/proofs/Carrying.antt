@@ -1,6 +1,6 @@
 -- What a record that was carried out tells: its tests passed, there was room, and its effect is what stands after it.
 use Rattle.std.proofs.Common.{◌≡◌, ℕ, ◌<◌, ◌≤◌, Bool, true, false, ◌&&◌, ◌||◌, eqb, leb, ltb, List, [], ◌∷◌, ◌≢◌, inl, inr, get_or, Some, None, Ok, Err, Option, Result, refl, sym, ap, ◌∙◌, not, if◌then◌else◌}
-use Rattle.std.proofs.lemmas.Bool.{and_parts, cases_Bool, false≢true, leb-true, ltb-true, eqb-true, eqb-false}
+use Rattle.std.proofs.lemmas.Bool.{and_parts, or_right, cases_Bool, false≢true, leb-true, ltb-true, eqb-true, eqb-false}
 use Rattle.std.specs.List.{list_all, list_any}
 use Rattle.lists.specs.Answers.{passed, same_ok, not_ok}
 use Rattle.refusals.specs.declared.reasons.Reason.{Reason}
@@ -114,10 +114,6 @@ posted_tells m room s p t h =
       valid = ap (λ (z : Standing). m.valid z.items) (sym is) ∙ h6.0;
       is = sym is;
     }
-
-or_right : (s t : Bool) → t ≡ true → (s || t) ≡ true
-or_right true t e = refl
-or_right false t e = e
 
 -- a row that was filled or freed
 pub record RowSet (room : ℕ) (s : Standing) (k : ℕ) (w : Row) (t : Standing) : Type 0 where

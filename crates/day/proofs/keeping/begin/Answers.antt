@@ -1,11 +1,12 @@
 use Rattle.std.proofs.Common.{◌≡◌, ℕ, List, ap}
+use Rattle.std.proofs.lemmas.Result.{IfOk-weaker}
 use Rattle.books.specs.Meaning.{Meaning}
 use Rattle.script.specs.Reading.{Gathered, gathered_by}
 use Rattle.trial.specs.Bytes.{blocks_of}
 use Rattle.trial.specs.State.{State, disk}
 use Rattle.monitor.specs.Machine.{Machine}
 use Rattle.day.specs.Keeping.{shut_over}
-use Rattle.day.proofs.Linking.{opened_as, served_as, taken_back, if_ok}
+use Rattle.day.proofs.Linking.{opened_as, served_as, taken_back}
 use Rattle.day.proofs.keeping.begin.Goals as goal
 
 -- the rig was formatted, and its drive taken back
@@ -17,6 +18,6 @@ returns-clause-begun g c =
     let setup : Gathered = gathered_by c.args.setup.now in
     let d : State = c.into_parts-drive.result.0 in
     let made : c.over-monitor.result ≡ shut_over (blocks_of bytes) = opened_as c.over-monitor.result c.over.result.drive bytes c.over-monitor.ensures.shut (ap disk c.over.ensures.fresh) in
-    if_ok c.serve-firsts.result _ _
+    IfOk-weaker c.serve-firsts.result _ _
     (λ firsts k. (s, served_as m _ (shut_over (blocks_of bytes)) s _ _ _ made c.in-Ok.ensures.asks k, taken_back d c.into_bytes.result.now s c.into_parts-drive.ensures.drive c.into_bytes.ensures.bytes))
     c.serve-firsts.ensures.served
