@@ -1,9 +1,10 @@
-// `bench`: counts the drive calls that each call of the monitor makes, at 64 and at 1,024 blocks, with an empty and with a full
-// audit. Counts are the same on every machine. docs/COSTS.md has its output.
+// `bench`: counts the drive calls that each call of the monitor makes, at 64 and at 1,024 blocks,
+// with an empty and with a full audit. Counts are the same on every machine. docs/COSTS.md has its
+// output.
 #![tactic(auto)]
 
+use applying::RowDraft;
 use books::Draft;
-use carrying::RowDraft;
 use counting::{BLOCKS, Counting, Counts};
 use ledger::Ledger;
 use monitor::{Monitor, Slip};
@@ -14,8 +15,9 @@ use trial::TrialDrive;
 /// A rig: the monitor of a ledger over a trial drive whose calls are counted.
 type Rig<'a> = Monitor<Counting<TrialDrive<'a>>, Ledger>;
 
-/// What each power call takes in turn: format's and the first attach's never fail; after the second the seventh write or flush is the last that
-/// is done, so its first change is cut on its way home; later ones never fail.
+/// The cut number that each power call takes in turn. After those of format and of the first attach
+/// power does not fail. After the second attach's, seven writes and flushes are done, so the first
+/// change is cut while it is installed. After later ones power never fails.
 const CUTS: [u16; 3] = [32_767, 32_767, 7];
 
 /// What had been counted at a moment.
@@ -35,7 +37,8 @@ impl Mark {
     }
 }
 
-/// Prints what one call cost: everything that was counted since the mark. A call that was refused is no cost to show.
+/// Prints what one call cost: everything that was counted since the mark. A call that was refused
+/// is no cost to show.
 fn print_cost<T>(
     rt: &HostRuntime,
     call: &str,
@@ -155,7 +158,7 @@ fn bench_attach(rt: &HostRuntime, rig: &mut Rig, call: &str) -> anyhow::Result<(
     print_cost(rt, call, &from, rig, answer)
 }
 
-/// Attach, where a certification of three blocks was cut on its way home.
+/// Attach, where a certification of three blocks was cut while it was installed.
 fn bench_finishing(rt: &HostRuntime, rig: &mut Rig) -> anyhow::Result<()> {
     let attached = rig.attach();
     let cut = rig.certify(&word_of(0), row_for(3, 3, 1));

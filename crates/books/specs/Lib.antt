@@ -1,3 +1,3 @@
 pub mod Meaning
-pub mod Testing
+pub mod TestsInOrder
 pub mod Words

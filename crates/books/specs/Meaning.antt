@@ -1,12 +1,13 @@
 -- What a book means to the monitor that keeps it, and the laws that every book obeys.
 use Rattle.std.specs.Prelude.{◌≡◌, ℕ, ◌^◌, ◌<◌, ◌≤◌, Bool, true, false, ◌&&◌, ◌⊎◌, ◌↔◌, List, length, Ok, Err, Result, ◌≢◌, nat_le, slice_index, slice_set}
-use Rattle.refusals.specs.declared.step_place.StepPlace.{StepPlace}
-use Rattle.refusals.specs.declared.step_place.StepPlace.TheVariants.{Items, Amount}
+use Rattle.refusals.specs.declared.places.StepPlace.{StepPlace}
+use Rattle.refusals.specs.declared.places.StepPlace.TheVariants.{Items, Amount}
 use Rattle.books.specs.declared.draft.Draft.{Draft}
 
--- kind: the book's number; ceiling: the largest amount of one note; words: the names of procedures 1, 2 and so on,
--- as bytes; valid: the lists of codes that the book allows; step: what a draft's procedure on items a and b with its
--- amount gives from their two codes, or the place where it refuses
+-- kind: the book's number; ceiling: the largest amount of one note; words: the names of procedures
+-- 1, 2 and so on, as bytes; valid: the lists of codes that the book allows; step: what a draft's
+-- procedure on items a and b with its amount gives from their two codes, or the place where it
+-- refuses
 pub record Meaning : Type 0 where
   pub kind : ℕ
   pub ceiling : ℕ
@@ -38,7 +39,8 @@ codes_at codes a b = (slice_index codes a, slice_index codes b)
 abbrev pub ValidHas64Codes : Meaning → Type 0
 ValidHas64Codes m = (codes : List ℕ) → m.valid codes ≡ true → length codes ≡ 64
 
--- a valid list stays valid when the codes of two different items are replaced by what the step gives
+-- a valid list stays valid when the codes of two different items are replaced by what the step
+-- gives
 abbrev pub StepKeepsValid : Meaning → Type 0
 StepKeepsValid m =
     (codes : List ℕ) (d : Draft) (x y : ℕ) →
@@ -47,9 +49,10 @@ StepKeepsValid m =
     m.step d (codes_at codes d.a d.b) ≡ Ok (x, y) →
     m.valid (slice_set (slice_set codes d.a x) d.b y) ≡ true
 
--- the step's tests in their order. Place 1 is a procedure without a word or items that it does not take, whatever the
--- codes and the amount. Place 2 is an amount that the procedure does not take, whatever the codes and the items, but that
--- place 1 comes first; no procedure takes an amount outside 1 to the ceiling
+-- the step's tests in their order. Place 1 is a procedure without a word or items that it does not
+-- take, whatever the codes and the amount. Place 2 is an amount that the procedure does not take,
+-- whatever the codes and the items, but that place 1 comes first; no procedure takes an amount
+-- outside 1 to the ceiling
 pub record StepTests (m : Meaning) : Type 0 where
   pub needs_word : (d : Draft) (codes : ℕ × ℕ) → has_procedure m d.procedure ≡ false → m.step d codes ≡ Err Items
   pub items_alone :
@@ -63,8 +66,8 @@ pub record StepTests (m : Meaning) : Type 0 where
       (m.step (record d { a = a; b = b }) codes' ≡ Err Items)
       ⊎ (m.step (record d { a = a; b = b }) codes' ≡ Err Amount)
 
--- place 2 is exactly an amount outside 1 to the ceiling, where the step takes the items. A book need not be so: its
--- procedures may have bounds of their own
+-- place 2 is exactly an amount outside 1 to the ceiling, where the step takes the items. A book
+-- need not be so: its procedures may have bounds of their own
 abbrev pub AmountTestIsCeiling : Meaning → Type 0
 AmountTestIsCeiling m =
     (d : Draft) (codes : ℕ × ℕ) →

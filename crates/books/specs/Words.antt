@@ -20,8 +20,8 @@ named_from p [] w = None
 named_from p (v ∷ vs) w = if bytes_eq v w then Some p else named_from (suc p) vs w
 
 -- the procedure that a word names
-abbrev pub named : List (List ℕ) → List ℕ → Option ℕ
-named ws w = named_from 1 ws w
+abbrev pub procedure_of_word : List (List ℕ) → List ℕ → Option ℕ
+procedure_of_word ws w = named_from 1 ws w
 
 abbrev pub letter : ℕ → Bool
 letter b = (nat_le 65 b && nat_le b 90) || (nat_le 97 b && nat_le b 122)

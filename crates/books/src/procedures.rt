@@ -1,6 +1,6 @@
 ghost use Rattle.std.specs.Prelude.{◌≡◌};
 ghost use Rattle.books.specs.Meaning.{has_procedure as in_meaning};
-ghost use Rattle.books.specs.Words.{word_of, is_word, named};
+ghost use Rattle.books.specs.Words.{word_of, is_word, procedure_of_word};
 
 use crate::book::Book;
 
@@ -21,7 +21,7 @@ fn is_word_of<B: Book>(book: &B, procedure: u64, word: &[u8]) -> bool
 
 /// The procedure that a word names in a book, if it names one.
 pub fn procedure_named<B: Book>(book: &B, word: &[u8]) -> Option<u64>
-    ensures value { result ≡ named B.meaning.words word.now }
+    ensures value { result ≡ procedure_of_word B.meaning.words word.now }
 {
     // Not `1..=`: the check does not find what a `find` over such a range gives.
     (1..book.procedures() + 1).find(|procedure| is_word_of(book, *procedure, word))

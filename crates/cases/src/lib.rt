@@ -1,10 +1,12 @@
-// Worked examples: one table of them that is proved of the definitions, and tests that run the code on examples.
+// Worked examples: one table of them that is proved of the definitions, and tests that run the code
+// on examples.
 #![tactic(auto)]
 
 ghost use Rattle.std.specs.Prelude.{◌≡◌, length};
 ghost use Rattle.cases.specs.Counter.{table, ExamplesStand};
 
-/// How many worked examples the table has: the definitions give the answer of each.
+/// A theorem: of each worked example in the table, which are the rows of `table` in the specs, the
+/// definitions give the answer that stands there. It answers how many there are: eleven.
 pub fn examples_stand() -> u64
     ensures stand { ExamplesStand }
     ensures count { result ≡ length table }
@@ -17,7 +19,8 @@ mod tests {
     use books::{Book, Draft, procedure_named};
     use ledger::{Balance, Ledger};
     use refusals::StepPlace;
-    use script::{BookName, Command, Numbered, TypedNote, read_script};
+    use registry::{BookName, TypedNote};
+    use script::{Command, Numbered, read_script};
     use std::test::*;
     use stock::{Reels, Stock};
 

@@ -1,9 +1,9 @@
 -- What the crates above prove with.
 use Rattle.std.specs.Prelude.{ℕ, ◌<◌, ◌≤◌, List, Decides}
-use Rattle.changes.specs.declared.change.Home.{Home}
+use Rattle.changes.specs.declared.home.Home.{Home}
 use Rattle.changes.specs.Homes.{numbers, last, IsChange}
-use Rattle.changes.specs.Commit.{lawful_commit, Rises, Lawful}
-use Rattle.changes.specs.Rounds.{ReadsBack}
+use Rattle.changes.specs.CommitBlock.{lawful_commit, Rises, LawfulCommit}
+use Rattle.changes.specs.RoundTrip.{ReadsBack}
 use Rattle.changes.specs.Laws.Changes as changes
 use Rattle.changes.specs.Laws.Testing as testing
 pub mod Encoding
@@ -11,7 +11,7 @@ pub mod Changes
 pub mod Testing
 
 -- the test of a commit block decides whether it is lawful
-pub lawful_decides : (size : ℕ) (c : List ℕ) → Decides (lawful_commit size c) (Lawful size c)
+pub lawful_decides : (size : ℕ) (c : List ℕ) → Decides (lawful_commit size c) (LawfulCommit size c)
 lawful_decides = testing.lawful_decides
 
 -- a change on a drive that has its blocks

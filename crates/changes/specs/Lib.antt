@@ -1,4 +1,4 @@
 pub mod Homes
-pub mod Commit
-pub mod Rounds
+pub mod CommitBlock
+pub mod RoundTrip
 pub mod Laws

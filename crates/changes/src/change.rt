@@ -1,27 +1,23 @@
 ghost use Rattle.std.specs.Prelude.{◌≡◌, true, false, [], ◌∷◌, ◌++◌, length, MatchOption, OnOk, OnErr};
 ghost use Rattle.std.specs.Result.{is_ok};
-ghost use Rattle.changes.specs.Commit.{commit_block_of};
-ghost use Rattle.changes.specs.Homes.{home_at, numbers, last, home_number, takes, IsChange};
+ghost use Rattle.changes.specs.CommitBlock.{commit_block_of};
+ghost use Rattle.changes.specs.Homes.{home_at, numbers, last, home_number, fits_behind, IsChange};
 
+use crate::home::Home;
 use arrayvec::ArrayVec;
 use std::marker::Model;
 
-/// A home block and what it is to hold.
-#[derive(Clone, Copy, PartialEq, Eq, Debug, Default)]
-pub struct Home {
-    pub number: u16,
-    pub content: [u8; 64],
-}
-
-/// One to six home blocks with new contents, in strictly rising number.
+/// One to six home blocks with new contents, in strictly rising number, each number from 7 on and
+/// of two bytes. It takes fixed memory.
 #[derive(Drop)]
 pub struct Change {
     homes: ArrayVec<Home, 6>,
 }
 
+/// A change is seen as its list of homes, and is known to be one.
 impl Model for Change {
     ghost use Rattle.std.specs.Prelude.{List};
-    ghost use Rattle.changes.specs.declared.change.Home.{Home};
+    ghost use Rattle.changes.specs.declared.home.Home.{Home};
     ghost use Rattle.changes.specs.Homes.{IsChange};
 
     ghost Value = { List Home };
@@ -31,12 +27,14 @@ impl Model for Change {
     ghost invariant = { λ c. IsChange c.homes.items };
 }
 
-/// Why a block was not added: there is no room, or its number is not above the others, or two bytes do not hold it.
+/// Why a block was not added: there are six already, or its number is not above the others, or two
+/// bytes do not hold it.
 #[derive(Clone, Copy, PartialEq, Eq, Debug)]
 pub struct DoesNotFit;
 
 impl Change {
-    /// A change of one block; none where its number is no home block's.
+    /// A change of one block, which is to hold this content; none where the number is no home
+    /// block's, which is below 7 or more than two bytes hold.
     pub fn of(block: u64, content: &[u8; 64]) -> Option<Change>
         ensures value { MatchOption result
             (home_number block ≡ false)
@@ -54,9 +52,11 @@ impl Change {
         Some(Change { homes })
     }
 
-    /// Adds a block behind the others, where it fits there; nothing changes where it does not.
+    /// Adds a block behind the others, which is to hold this content. Refused, and the change is as
+    /// it was, where it does not fit there: there are six already, or its number is not above the
+    /// last, or two bytes do not hold it.
     pub fn add(&mut self, block: u64, content: &[u8; 64]) -> Result<(), DoesNotFit>
-        ensures value { is_ok result ≡ takes self.old block }
+        ensures value { is_ok result ≡ fits_behind self.old block }
         ensures added { OnOk result (self.new ≡ self.old ++ home_at block content.now ∷ []) }
         ensures kept { OnErr result (self.new ≡ self.old) }
     {
@@ -71,7 +71,7 @@ impl Change {
         Ok(())
     }
 
-    /// How many blocks the change has.
+    /// How many blocks the change has, from 1 to 6.
     pub fn len(&self) -> usize
         ensures value { result ≡ length self.now }
     {
@@ -85,7 +85,7 @@ impl Change {
         u64::from(self.homes[self.len() - 1].number)
     }
 
-    /// Its blocks, each with what it is to hold.
+    /// Its blocks in rising number, each with what it is to hold.
     pub fn homes(&self) -> &[Home]
         ensures value { result.now ≡ self.now }
         ensures change { IsChange result.now }
@@ -93,7 +93,8 @@ impl Change {
         self.homes.as_slice()
     }
 
-    /// The commit block that names the change's blocks.
+    /// The commit block that names the change's blocks: how many there are, a zero, their numbers
+    /// of two bytes each, the low byte first, and zeros to the end.
     pub fn commit_block(&self) -> [u8; 64]
         ensures value { result ≡ commit_block_of (numbers self.now) }
     {
@@ -101,7 +102,7 @@ impl Change {
         block[0] = self.homes.len() as u8;
         for (place, home) in self.homes.iter().enumerate() {
             let bytes = home.number.to_le_bytes();
-            // Tried: `copy_from_slice` of both. The proof did not close.
+            // `copy_from_slice` of both is not proved: the lemmas on this block set single bytes.
             block[2 + 2 * place] = bytes[0];
             block[3 + 2 * place] = bytes[1];
         }

@@ -1,40 +1,34 @@
 ghost use Rattle.std.specs.Prelude.{◌≡◌, true, IsOk};
 ghost use Rattle.drives.specs.Calls.{Writes, Flushes, Powers};
-ghost use Rattle.counting.specs.Counted.{Counted, none_yet, write_counted, flush_counted, power_counted};
+ghost use Rattle.counting.specs.CountingState.{CountingState, no_counts, write_counted, flush_counted, power_counted};
 
+use crate::counts::Counts;
 use drives::{Drive, DriveFault};
 use std::array;
 use std::cell::Cell;
 use std::marker::Model;
 
-/// Of so many blocks the reads are counted one by one.
+/// How many blocks have a count of reads of their own: those with the lowest numbers.
 pub const BLOCKS: usize = 1024;
-
-/// How many writes, flushes and power calls were made. A count stays where it is once it is the largest that 64 bits hold.
-#[derive(Clone, Copy, PartialEq, Eq, Debug)]
-pub struct Counts {
-    pub writes: u64,
-    pub flushes: u64,
-    pub powers: u64,
-}
 
 /// A drive that counts the calls which it hands on to the drive below.
 #[derive(Drop)]
 pub struct Counting<D: Drive> {
     drive: D,
-    // A read takes the drive by `&`, so its counts are cells. What a cell holds is beyond a contract: reads are tested, not proved.
+    // A read takes the drive by `&`, so its counts are cells. What a cell holds is beyond a
+    // contract: reads are tested, not proved.
     reads: [Cell<u64>; BLOCKS],
     writes: u64,
     flushes: u64,
     powers: u64,
 }
 
-/// A counting drive is seen as what the drive below means, and its counts.
+/// A counting drive is seen as what the drive below means, and its counts but for those of reads.
 impl<D: Drive> Model for Counting<D> {
-    ghost use Rattle.counting.specs.Counted.{Counted};
-    ghost use Rattle.counting.specs.declared.counting.Counts.{Counts};
+    ghost use Rattle.counting.specs.CountingState.{CountingState};
+    ghost use Rattle.counting.specs.declared.counts.Counts.{Counts};
 
-    ghost Value = { Counted };
+    ghost Value = { CountingState };
 
     ghost view = { λ c. record {
       disk = D.disk c.drive;
@@ -43,10 +37,10 @@ impl<D: Drive> Model for Counting<D> {
 }
 
 impl<D: Drive> Counting<D> {
-    /// A drive that counts from zero.
+    /// A counting drive that means what this drive means, and counts from zero.
     pub fn over(drive: D) -> Counting<D>
         ensures holds { result.disk ≡ D.disk drive }
-        ensures counts { result.counts ≡ none_yet }
+        ensures counts { result.counts ≡ no_counts }
     {
         Counting {
             drive,
@@ -57,7 +51,7 @@ impl<D: Drive> Counting<D> {
         }
     }
 
-    /// The counts so far.
+    /// How many writes, flushes and power calls were made so far.
     pub fn counts(&self) -> Counts
         ensures value { result ≡ self.now.counts }
     {
@@ -68,7 +62,8 @@ impl<D: Drive> Counting<D> {
         }
     }
 
-    /// How often each block was read so far. It is tested, not proved.
+    /// How often each of the first 1,024 blocks was read so far, refused reads among the others. It
+    /// is tested, not proved.
     pub fn reads(&self) -> [u64; BLOCKS] {
         let mut reads = [0; BLOCKS];
         for (count, cell) in reads.iter_mut().zip(&self.reads) {
@@ -78,18 +73,23 @@ impl<D: Drive> Counting<D> {
     }
 }
 
-/// The drive keeps the meaning of the drive below, and each write, flush and power call raises its count by one.
+/// Every call is handed on to the drive below and answered as that answers it, so a counting drive
+/// keeps the meaning of the drive below. Each write, flush and power call raises its own count by
+/// one and no other.
 impl<D: Drive> Drive for Counting<D> {
     ghost disk = { λ c. c.disk };
 
+    /// How many blocks the drive below has.
     fn size(&self) -> u64 {
         self.drive.size()
     }
 
+    /// Whether the drive below has power.
     fn is_on(&self) -> bool {
         self.drive.is_on()
     }
 
+    /// Reads from the drive below, and counts the read of a block that has a count.
     fn read(&self, block: u64, buffer: &mut [u8]) -> Result<(), DriveFault> {
         if let Some(count) = self.reads.get(block as usize) {
             count.set(count.get().saturating_add(1));
@@ -97,6 +97,7 @@ impl<D: Drive> Drive for Counting<D> {
         self.drive.read(block, buffer)
     }
 
+    /// Writes to the drive below, and counts the write, also where it is refused or loses power.
     fn write(&mut self, block: u64, content: &[u8]) -> Result<(), DriveFault>
         ensures writes { Writes self.old.disk block content.now result self.new.disk }
         ensures counted { self.new.counts ≡ write_counted self.old.counts }
@@ -105,6 +106,7 @@ impl<D: Drive> Drive for Counting<D> {
         self.drive.write(block, content)
     }
 
+    /// Flushes the drive below, and counts the flush, also where it is refused or loses power.
     fn flush(&mut self) -> Result<(), DriveFault>
         ensures flushes { Flushes self.old.disk result self.new.disk }
         ensures counted { self.new.counts ≡ flush_counted self.old.counts }
@@ -113,6 +115,8 @@ impl<D: Drive> Drive for Counting<D> {
         self.drive.flush()
     }
 
+    /// Turns power of the drive below off and on again, and counts the power call, also where it
+    /// loses power.
     fn power(&mut self) -> Result<(), DriveFault>
         ensures powers { Powers self.old.disk result self.new.disk }
         ensures done { self.old.disk.certain ≡ true → IsOk result }

@@ -1,4 +1,4 @@
-mod Linking
-mod Everything
-mod Looks
-mod Outcomes
+mod PartsJoin
+mod EveryCommandAnswered
+mod LooksTellTally
+mod RunsOn

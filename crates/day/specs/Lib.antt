@@ -1,6 +1,6 @@
-pub mod Keeping
+pub mod DayRun
 pub mod Parts
-pub mod Planning
+pub mod Plan
 pub mod Replies
-pub mod Running
+pub mod Outcome
 pub mod Texts

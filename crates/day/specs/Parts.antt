@@ -3,43 +3,55 @@ use Rattle.std.specs.Prelude.{◌≡◌, ℕ, List, vec_items, Result, MatchResu
 use Rattle.std.specs.declared.alloc.AllocError.{AllocError}
 use Rattle.books.specs.Meaning.{Meaning}
 use Rattle.trial.specs.Bytes.{blocks_of}
-use Rattle.script.specs.Reading.{Gathered}
-use Rattle.monitor.specs.Machine.{Machine}
-use Rattle.journals.specs.State.{TakenOver}
+use Rattle.script.specs.Reading.{SetupValue}
+use Rattle.monitor.specs.MonitorState.{MonitorState}
+use Rattle.journals.specs.JournalState.{TakenOver}
 use Rattle.desk.specs.declared.told.Told.{Told}
-use Rattle.desk.specs.Serving.{Requested, Served}
-use Rattle.day.specs.declared.keeping.Day.{Day}
-use Rattle.day.specs.Keeping.{shut_over, blocks_on, every_record}
-use Rattle.day.specs.Planning.{first_requests}
+use Rattle.desk.specs.Serving.{RequestValue, Served}
+use Rattle.day.specs.declared.day.Day.{Day}
+use Rattle.day.specs.DayRun.{shut_over, blocks_on, every_record}
+use Rattle.day.specs.Plan.{first_requests}
 
--- bytes that were taken back from a monitor: they are the blocks of its drive, and a fresh trial drive of them takes it over
-pub record TakenBack (s : Machine) (left : List ℕ) : Type 0 where
+-- bytes that were taken back from a monitor: they are the blocks of its drive, and a fresh trial
+-- drive of them takes it over
+pub record TakenBack (s : MonitorState) (left : List ℕ) : Type 0 where
   pub same : blocks_of left ≡ blocks_on s
   pub takes_over : TakenOver s.disk (shut_over (blocks_of left)).disk
 
 -- the rig was formatted
-abbrev pub Begun : Meaning → List ℕ → Gathered → List Told → List ℕ → Type 0
+abbrev pub Begun : Meaning → List ℕ → SetupValue → List Told → List ℕ → Type 0
 Begun m bytes g firsts left =
-    (s : Machine) × Served m (shut_over (blocks_of bytes)) (first_requests g) firsts s × TakenBack s left
+    (s : MonitorState) × Served m (shut_over (blocks_of bytes)) (first_requests g) firsts s
+    × TakenBack s left
 
 -- requests and looks, on a monitor
-pub record Looked (m : Meaning) (s : Machine) (requests : List Requested) (told looks : List Told) (t : Machine) : Type 0 where
-  pub closed : Machine
+pub record Looked
+    (m : Meaning) (s : MonitorState) (requests : List RequestValue) (told looks : List Told)
+    (t : MonitorState) : Type 0 where
+  pub closed : MonitorState
   pub requests_served : Served m s requests told closed
   pub looks_served : Served m closed every_record looks t
 
 -- the same, where memory was wanted
-pub data Stopped (m : Meaning) (s : Machine) (requests : List Requested) (t : Machine) : Type 0 where
+pub data Stopped
+    (m : Meaning) (s : MonitorState) (requests : List RequestValue) (t : MonitorState)
+    : Type 0 where
   unserved : t ≡ s → Stopped m s requests t
   unlooked : {told : List Told} → Served m s requests told t → Stopped m s requests t
 
 -- a day that went on, from a monitor to another, after what was told of the format
-abbrev pub GoesOn : Meaning → Machine → List Requested → List Told → Result Day AllocError → Machine → Type 0
-GoesOn m s requests firsts r t =
+abbrev pub ServesDay :
+    Meaning → MonitorState → List RequestValue → List Told → Result Day AllocError →
+    MonitorState → Type 0
+ServesDay m s requests firsts r t =
     MatchResult r
-    (λ d. (vec_items d.firsts ≡ firsts) × (d.stage ≡ t.stage) × Looked m s requests (vec_items d.told) (vec_items d.looks) t)
+    (λ d. (vec_items d.firsts ≡ firsts) × (d.stage ≡ t.stage)
+    × Looked m s requests (vec_items d.told) (vec_items d.looks) t)
     (λ _. Stopped m s requests t)
 
 -- the same, with the bytes of the drive taken back
-abbrev pub WentOn : Meaning → Machine → List Requested → List Told → Result Day AllocError → List ℕ → Type 0
-WentOn m s requests firsts r left = (t : Machine) × GoesOn m s requests firsts r t × (blocks_of left ≡ blocks_on t)
+abbrev pub ServedDay :
+    Meaning → MonitorState → List RequestValue → List Told → Result Day AllocError → List ℕ →
+    Type 0
+ServedDay m s requests firsts r left =
+    (t : MonitorState) × ServesDay m s requests firsts r t × (blocks_of left ≡ blocks_on t)

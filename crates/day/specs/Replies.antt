@@ -1,15 +1,15 @@
 -- The replies to a script: in its order, what was said at once, and else what the desk told next.
 use Rattle.std.specs.Prelude.{ℕ, List, [], ◌∷◌, Some, None, Option}
-use Rattle.refusals.specs.declared.reasons.Reason.TheVariants.{BadScript}
+use Rattle.refusals.specs.declared.reason.Reason.TheVariants.{BadScript}
 use Rattle.refusals.specs.declared.refusal.Refusal.{Refusal}
 use Rattle.desk.specs.declared.told.Told.{Told}
 use Rattle.desk.specs.declared.told.Told.TheVariants as told
-use Rattle.day.specs.declared.reply.Source.{Source}
-use Rattle.day.specs.declared.reply.Source.TheVariants.{Format, Attach, Line}
-use Rattle.day.specs.declared.reply.Said.{Said}
-use Rattle.day.specs.declared.reply.Said.TheVariants.{Refused, NoSlip, Answered}
+use Rattle.day.specs.declared.source.Source.{Source}
+use Rattle.day.specs.declared.source.Source.TheVariants.{Format, Attach, Line}
+use Rattle.day.specs.declared.said.Said.{Said}
+use Rattle.day.specs.declared.said.Said.TheVariants.{Refused, NoSlip, Answered}
 use Rattle.day.specs.declared.reply.Reply.{Reply}
-use Rattle.day.specs.declared.planning.Expected.{Expected}
+use Rattle.day.specs.declared.plan.Expected.{Expected}
 
 -- a line that asks for what cannot be is refusal 5, and its place is its number
 abbrev pub bad_line : ℕ → Refusal

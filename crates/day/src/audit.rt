@@ -1,5 +1,5 @@
 ghost use Rattle.std.specs.Prelude.{◌≡◌, IfOk};
-ghost use Rattle.day.specs.Running.{Shows, record_seen, records_seen};
+ghost use Rattle.day.specs.Outcome.{Shows, record_seen, records_seen};
 
 use desk::Told;
 use monitor::Stage;

@@ -1,18 +1,24 @@
-// A day: a script that was read is run on a monitor over trial drives, and what was answered is printed.
+// A day: a script that was read is run on a monitor over trial drives, and what was answered is
+// printed.
 #![tactic(auto)]
 
 mod audit;
-mod instances;
-mod keeping;
-mod planning;
+mod day;
+mod day_visitor;
+mod left;
+mod outcome;
+mod plan;
 mod reply;
 mod rig;
-mod running;
+mod said;
+mod source;
 mod table;
 
 pub use audit::Audit;
-pub use instances::{keep_ledger_day, keep_stock_day};
-pub use keeping::{Day, Left, keep_day};
-pub use planning::{Expected, Plan, plan_command, plan_day};
-pub use reply::{Reply, Said, Source};
-pub use running::{Outcome, run_script};
+pub use day::{Day, run_day};
+pub use left::Left;
+pub use outcome::{Outcome, run_script};
+pub use plan::{Expected, Plan, plan_command, plan_day};
+pub use reply::Reply;
+pub use said::Said;
+pub use source::Source;

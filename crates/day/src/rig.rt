@@ -1,7 +1,8 @@
-// The two drives of a day. Each has a type of its own, which only the function beside it makes: neither is taken for the other.
+// The two drives of a day. Each has a type of its own, which only the function beside it makes:
+// neither is taken for the other.
 ghost use Rattle.std.specs.Prelude.{◌≡◌, []};
-ghost use Rattle.script.specs.Reading.{gathered_by};
-ghost use Rattle.trial.specs.State.{fresh};
+ghost use Rattle.script.specs.Reading.{setup_value};
+ghost use Rattle.trial.specs.TrialState.{fresh};
 
 use script::Setup;
 use trial::TrialDrive;
@@ -32,7 +33,7 @@ impl<'a> SteadyDrive<'a> {
 impl<'a> CutDrive<'a> {
     /// A fresh trial drive over some bytes, with the script's cut numbers.
     pub(crate) fn over(bytes: &'a mut [u8], setup: &'a Setup) -> CutDrive<'a>
-        ensures fresh { result.drive ≡ fresh bytes.old (gathered_by setup.now).cuts }
+        ensures fresh { result.drive ≡ fresh bytes.old (setup_value setup.now).cuts }
     {
         CutDrive {
             drive: TrialDrive::over(bytes, setup.cuts.as_slice()),

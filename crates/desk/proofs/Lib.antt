@@ -1,3 +1,3 @@
-mod Trays
-mod Moving
-mod Sessions
+mod TrayAsDefined
+mod ServesAsDefined
+mod SessionExtends

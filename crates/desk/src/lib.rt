@@ -1,5 +1,6 @@
-// The desk. `make_call` makes any one call on a monitor, and carries the law over every history of calls. `serve` makes the
-// calls that people ask for, one after another, with the slips that wait between enter and countersign or withdraw.
+// The desk, where people ask. `make_call` makes any one call on a monitor. `serve` does what is
+// asked, one request after another, with the slips that wait between enter and countersign or
+// withdraw.
 #![tactic(auto)]
 
 mod making;

@@ -1,6 +1,6 @@
 ghost use Rattle.std.specs.Prelude.{◌∷◌, []};
-ghost use Rattle.calls.specs.Plain.{plain_call};
-ghost use Rattle.histories.specs.Events.{called, event, Happens, Plainly};
+ghost use Rattle.calls.specs.PlainValue.{plain_value};
+ghost use Rattle.histories.specs.Events.{call_value, event, Happens, PlainCall};
 ghost use Rattle.histories.specs.Law.{Extends};
 
 use books::Book;
@@ -12,7 +12,7 @@ use monitor::Monitor;
 /// Makes a call that needs no slip.
 fn make_plain<D: Drive, B: Book>(monitor: &mut Monitor<D, B>, call: Plain<'_>) -> Answer
     ensures happens { Happens B.meaning monitor.old
-        (event (Plainly (plain_call call.entry)) result) monitor.new }
+        (event (PlainCall (plain_value call.entry)) result) monitor.new }
 {
     match call {
         Plain::Format {
@@ -31,7 +31,7 @@ fn make_plain<D: Drive, B: Book>(monitor: &mut Monitor<D, B>, call: Plain<'_>) -
 /// Makes a call by the monitor's own method.
 fn perform<D: Drive, B: Book>(monitor: &mut Monitor<D, B>, call: Call<'_>) -> Answer
     ensures happens { Happens B.meaning monitor.old
-        (event (called call.entry) result) monitor.new }
+        (event (call_value call.entry) result) monitor.new }
 {
     match call {
         Call::Enter { user, word, note } => Answer::Slip(monitor.enter(user, word, note)),
@@ -43,11 +43,15 @@ fn perform<D: Drive, B: Book>(monitor: &mut Monitor<D, B>, call: Call<'_>) -> An
 }
 
 /// Makes any one call on a monitor, and answers it. It asks for no memory.
+///
+/// The answer, the drive and the stage are what the call's own promise says (`happens`). Whatever
+/// history of calls led to the monitor before, this call and its answer extend it to the monitor
+/// after, and the law of every history holds of it at every moment (`law`).
 pub fn make_call<D: Drive, B: Book>(monitor: &mut Monitor<D, B>, call: Call<'_>) -> Answer
     ensures happens { Happens B.meaning monitor.old
-        (event (called call.entry) result) monitor.new }
+        (event (call_value call.entry) result) monitor.new }
     ensures law { Extends B.meaning monitor.old
-        (event (called call.entry) result ∷ []) monitor.new }
+        (event (call_value call.entry) result ∷ []) monitor.new }
 {
     // The law holds of every history: what is promised of this one rests on it.
     every_history_is_lawful();

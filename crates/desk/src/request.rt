@@ -1,7 +1,8 @@
 use calls::Plain;
 use notes::Note;
 
-/// What is asked at the desk: a call of the monitor, in which the name of a slip stands for the slip, or a slip withdrawn.
+/// What is asked at the desk: a call of the monitor, in which the name of a slip stands for the
+/// slip, or a slip withdrawn.
 #[derive(Drop)]
 pub enum Request<'a> {
     /// Enters a note. Its slip waits under the name.

@@ -1,11 +1,11 @@
-// `drill`: makes one change of four blocks on a trial drive that loses power at each cut number in turn, once with
-// the write that loses power not landing and once landing. Then it finishes on a fresh drive over the same bytes, and
-// prints where the change was cut and whether it stands.
+// `drill`: makes one change of four blocks on a trial drive that loses power at each cut number in
+// turn, once with the write that loses power not landing and once landing. Then it finishes on a
+// fresh drive over the same bytes, and prints where the change was cut and whether it stands.
 #![tactic(auto)]
 
 use changes::Change;
 use drives::Drive;
-use journals::{ChangeFault, Journal, Place};
+use journals::{ChangeFault, CutPlace, Journal};
 use std::fmt;
 use trial::TrialDrive;
 
@@ -25,43 +25,44 @@ fn four_blocks() -> Option<Change> {
     Some(change)
 }
 
-// What the drill prints is its own words: a `Display` in `journals` would be for this program alone.
+// What the drill prints is its own words: a `Display` in `journals` would be for this program
+// alone.
 /// What became of the change.
 #[derive(Clone, Copy)]
-enum Outcome {
+enum ChangeOutcome {
     /// It was made.
     Done,
     /// Power was lost at this place.
-    Cut(Place),
+    Cut(CutPlace),
     /// It was not begun, and why.
     Trouble(&'static str),
 }
 
-impl fmt::Display for Outcome {
+impl fmt::Display for ChangeOutcome {
     fn fmt<W: fmt::Write>(&self, f: &mut fmt::Formatter<W>) -> fmt::Result {
         match *self {
-            Outcome::Done => f.write_str("done"),
-            Outcome::Cut(place) => write!(f, "place {}", u64::from(place)),
-            Outcome::Trouble(trouble) => f.write_str(trouble),
+            ChangeOutcome::Done => f.write_str("done"),
+            ChangeOutcome::Cut(place) => write!(f, "place {}", u64::from(place)),
+            ChangeOutcome::Trouble(trouble) => f.write_str(trouble),
         }
     }
 }
 
 /// Makes the change with one cut number.
-fn change_cut_at(bytes: &mut [u8], cut: u16) -> Outcome {
+fn change_cut_at(bytes: &mut [u8], cut: u16) -> ChangeOutcome {
     let cuts = [cut];
     let mut journal = Journal::over(TrialDrive::over(bytes, &cuts));
     if journal.power().is_err() {
-        return Outcome::Trouble("no power");
+        return ChangeOutcome::Trouble("no power");
     }
     let Some(change) = four_blocks() else {
-        return Outcome::Trouble("no change");
+        return ChangeOutcome::Trouble("no change");
     };
     match journal.change(&change) {
-        Ok(()) => Outcome::Done,
-        Err(ChangeFault::Cut(place)) => Outcome::Cut(place),
-        Err(ChangeFault::Off) => Outcome::Trouble("off"),
-        Err(ChangeFault::Beyond) => Outcome::Trouble("beyond the drive"),
+        Ok(()) => ChangeOutcome::Done,
+        Err(ChangeFault::Cut(place)) => ChangeOutcome::Cut(place),
+        Err(ChangeFault::Off) => ChangeOutcome::Trouble("off"),
+        Err(ChangeFault::Beyond) => ChangeOutcome::Trouble("beyond the drive"),
     }
 }
 

@@ -1,11 +1,12 @@
--- What proofs elsewhere cite: numbers of two, four and eight bytes, written and read, by the laws of std.
+-- What proofs elsewhere cite: numbers of two, four and eight bytes, written and read, by the laws
+-- of std.
 use Rattle.std.proofs.Common.{◌≡◌, ℕ, ◌+◌, ◌^◌, ◌<◌, ◌≤◌, List, length, take, drop, get_or, refl, ap, ◌∙◌, inl, inr, arith}
 use Rattle.std.specs.Int.{Width, w16, w32, w64, byte_len, to_le_bytes, from_le_bytes}
 use Rattle.std.proofs.lemmas.List.{take_at, take_all, drop_at, length-take, length-drop, length-take-le, get_or-take, get_or-drop, get_or_past}
 use Rattle.std.proofs.lemmas.Bool.{cases_lt}
 use Rattle.std.proofs.lemmas.Nat.{le_bytes_2, le_bytes_4, le_bytes_8, from_le_bytes-to_le_bytes_2, from_le_bytes-to_le_bytes_4, from_le_bytes-to_le_bytes_8}
 use Rattle.encoding.specs.Numbers.{number_at}
-use Rattle.encoding.specs.Rounds.{RoundTrips, ReadBack}
+use Rattle.encoding.specs.RoundTrips.{RoundTrips, NumbersReadBack}
 
 -- part of a list of bytes is bytes
 part : (n k : ℕ) (c : List ℕ) → ((i : ℕ) → get_or c i 0 < 256) → (i : ℕ) → get_or (take n (drop k c)) i 0 < 256
@@ -40,7 +41,7 @@ four = trips w32 (λ n. refl) from_le_bytes-to_le_bytes_4 le_bytes_4
 eight : RoundTrips w64
 eight = trips w64 (λ n. refl) from_le_bytes-to_le_bytes_8 le_bytes_8
 
-pub read_back : ReadBack
+pub read_back : NumbersReadBack
 read_back = record { two = two; four = four; eight = eight }
 
 -- a number is read back from its bytes

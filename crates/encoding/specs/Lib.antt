@@ -1,3 +1,3 @@
 pub mod Numbers
-pub mod Rounds
+pub mod RoundTrips
 pub mod Laws

@@ -1,11 +1,11 @@
-// Numbers as bytes, the low byte first, and blocks of 64 bytes. What writes a number is `to_le_bytes`; here is what
-// reads one from a place among other bytes.
+// Numbers as bytes, the low byte first, and blocks of 64 bytes. What writes a number is
+// `to_le_bytes`; here is what reads one from a place among other bytes.
 #![tactic(auto)]
 
 ghost use Rattle.std.specs.Prelude.{◌≡◌, ◌+◌, ◌<◌, ◌≤◌, length, take, drop, is_some, IfSome, nat_le};
 ghost use Rattle.std.specs.Int.{w16, w32, w64};
 ghost use Rattle.encoding.specs.Numbers.{number_at};
-ghost use Rattle.encoding.specs.Rounds.{ReadBack};
+ghost use Rattle.encoding.specs.RoundTrips.{NumbersReadBack};
 
 /// The first N bytes from a place on, if they are all there.
 fn bytes_at<const N: usize>(bytes: &[u8], place: usize) -> Option<&[u8; N]>
@@ -39,9 +39,10 @@ pub fn eight_at(bytes: &[u8], place: usize) -> u64
     bytes_at(bytes, place).map_or(0, |found| u64::from_le_bytes(*found))
 }
 
-/// A theorem: a number is read back from its bytes, and bytes are those of the number that they hold.
+/// A theorem: a number is read back from its bytes, and bytes are those of the number that they
+/// hold.
 pub fn numbers_are_read_back() -> bool
-    ensures holds { ReadBack }
+    ensures holds { NumbersReadBack }
 {
     true
 }

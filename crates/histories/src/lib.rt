@@ -1,5 +1,6 @@
-// Histories: what happened to a monitor, call by call; the tally of what its books should hold, by the calls' arguments and
-// answers alone; and the law that every history obeys, for every drive and every book.
+// Histories: what happened to a monitor, call by call; the tally of what its books should hold, by
+// the calls' arguments and answers alone; and the law that every history obeys, for every drive and
+// every book.
 #![tactic(auto)]
 
 mod answer;

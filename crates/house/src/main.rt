@@ -1,13 +1,16 @@
-// `house`: reads scripts from the files that its arguments name, or one from standard input, and prints the replies to each,
-// and the audit at its end. What it answers is the library's; here is only reading and printing.
+// `house`: reads scripts from the files that its arguments name, or one from standard input, and
+// prints the replies to each, and the audit at its end. What it answers is the crate `day`'s; here
+// is only reading and printing.
 #![tactic(auto)]
 
 use day::run_script;
+use files::read_file;
 use std::io::Read;
-use std::{env, fs, io};
+use std::{env, io};
 
 const HELP: &str = "usage: house [FILE...]
-Answers the script in each FILE, each on a rig of its own. Without FILE, or for a FILE of '-', it reads standard input.
+Answers the script in each FILE, each on a rig of its own. \
+Without FILE, or for a FILE of '-', it reads standard input.
   book ledger | book stock      the book of the lines below; the first is the rig's
   house N                       the house number
   roll WORD...                  more bytes of the roll
@@ -32,16 +35,13 @@ fn read_input(rt: &HostRuntime) -> io::Result<Vec<u8>> {
     Ok(bytes)
 }
 
-/// The bytes of a file, or a line that says why they cannot be had. A file named '-' is standard input.
-// `judge` has its own: a crate for these lines alone would be no plainer.
-fn read_file(rt: &HostRuntime, path: &str) -> anyhow::Result<Vec<u8>> {
+/// All bytes of a file; of one named '-', those of standard input.
+fn read_file_or_input(rt: &HostRuntime, path: &str) -> io::Result<Vec<u8>> {
     if path == "-" {
-        return Ok(read_input(rt)?);
+        read_input(rt)
+    } else {
+        read_file(rt, "house", path)
     }
-    fs::read(rt, path).or_else(|error| {
-        eprintln!(rt; "house: cannot read {path}: {error}")?;
-        Err(error.into())
-    })
 }
 
 /// Answers a script: a line for each reply, and the audit.
@@ -63,7 +63,7 @@ fn answer_files(rt: &HostRuntime, paths: &[String]) -> anyhow::Result<()> {
         if paths.len() > 1 {
             println!(rt; "== {path}")?;
         }
-        answer(rt, read_file(rt, path)?.as_slice())?;
+        answer(rt, read_file_or_input(rt, path)?.as_slice())?;
     }
     Ok(())
 }

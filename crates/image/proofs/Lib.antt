@@ -1,1 +1,4 @@
-mod Differing
+mod FirstDiffering
+mod ReplayOneMore
+mod VerdictByTests
+mod InspectionAfterPower

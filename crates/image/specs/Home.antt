@@ -9,18 +9,18 @@ use Rattle.layout.specs.Head.{fields_of_head}
 use Rattle.layout.specs.Codes.{codes_form, codes_of}
 use Rattle.layout.specs.Rows.{rows_form, rows_of}
 use Rattle.layout.specs.Roll.{word_in}
-use Rattle.carrying.specs.Standing.{Standing}
+use Rattle.applying.specs.BookState.{BookState}
 use Rattle.image.specs.declared.part.Part.{Part}
 use Rattle.image.specs.declared.part.Part.TheVariants.{Items, Opening, Rows}
 use Rattle.image.specs.Layout.{head_block, first_block, roll_block, record_block}
 
 -- block k
-abbrev pub at : List (List ℕ) → ℕ → List ℕ
-at h k = slice_index_or h (k - head_block) []
+abbrev pub block_at : List (List ℕ) → ℕ → List ℕ
+block_at h k = slice_index_or h (k - head_block) []
 
 -- n blocks from k on
 abbrev pub blocks_at : List (List ℕ) → ℕ → ℕ → List (List ℕ)
-blocks_at h k n = map (at h) (range_with_len k n)
+blocks_at h k n = map (block_at h) (range_with_len k n)
 
 -- the eight blocks of a part
 abbrev pub part_on : List (List ℕ) → Part → List (List ℕ)
@@ -28,7 +28,7 @@ part_on h part = blocks_at h (first_block part) 8
 
 -- the head, by its block's fields
 abbrev pub head_on : List (List ℕ) → Head
-head_on h = fields_of_head (at h head_block)
+head_on h = fields_of_head (block_at h head_block)
 
 abbrev pub house_on : List (List ℕ) → ℕ
 house_on h = (head_on h).house
@@ -46,20 +46,21 @@ opening_on h = flat_map codes_of (part_on h Opening)
 abbrev pub rows_on : List (List ℕ) → List Row
 rows_on h = flat_map rows_of (part_on h Rows)
 
--- what the books hold by the blocks of items and rows, where so many records stand; and as the head counts them
-abbrev pub standing_with : List (List ℕ) → ℕ → Standing
-standing_with h count = record { items = items_on h; rows = rows_on h; count = count }
+-- what the books hold by the blocks of items and rows, where so many records stand; and as the head
+-- counts them
+abbrev pub state_with : List (List ℕ) → ℕ → BookState
+state_with h count = record { items = items_on h; rows = rows_on h; count = count }
 
-abbrev pub standing_on : List (List ℕ) → Standing
-standing_on h = standing_with h (count_on h)
+abbrev pub state_on : List (List ℕ) → BookState
+state_on h = state_with h (count_on h)
 
 -- the word of a user on the roll
 abbrev pub word_on : List (List ℕ) → ℕ → List ℕ
-word_on h u = word_in (at h (roll_block u)) (u % 8)
+word_on h u = word_in (block_at h (roll_block u)) (u % 8)
 
 -- record k, from 1 on; none where its block is not a record's exact form with that number
 abbrev pub record_on : List (List ℕ) → ℕ → Option Record
-record_on h k = decoded k (at h (record_block k))
+record_on h k = decoded k (block_at h (record_block k))
 
 -- the records up to the head's count
 abbrev pub records_on : List (List ℕ) → List (Option Record)

@@ -5,8 +5,8 @@ use Rattle.records.specs.declared.record.Record.{Record}
 use Rattle.records.specs.Form.{decoded, Exact}
 use Rattle.layout.specs.Codes.{codes_of}
 use Rattle.layout.specs.Rows.{rows_of}
-use Rattle.journals.specs.Redo.{home}
-use Rattle.image.specs.Home.{at, blocks_at, items_on}
+use Rattle.journals.specs.Redo.{home_blocks}
+use Rattle.image.specs.Home.{block_at, blocks_at, items_on}
 use Rattle.image.specs.Layout.{item_block, lawful_size}
 use Rattle.image.specs.Verdict.{AcceptsExactlyLawful}
 use Rattle.image.specs.Laws.Accepting as accepting
@@ -16,6 +16,7 @@ pub mod Places
 pub mod Comparing
 pub mod Replaying
 pub mod Accepting
+pub mod Inspecting
 
 -- a lawful size is from 35 to 1,024
 pub size_low : (n : ℕ) → lawful_size n ≡ true → 35 ≤ n
@@ -33,11 +34,11 @@ pub read_exact : (k : ℕ) (x : Record) (c : List ℕ) → Exact k x c → decod
 read_exact k x c f = replaying.read_exact k x c f
 
 -- a home block, by its number on the drive
-pub at_home : (p : List (List ℕ)) (k : ℕ) → 7 ≤ k → at (home p) k ≡ slice_index_or p k []
+pub at_home : (p : List (List ℕ)) (k : ℕ) → 7 ≤ k → block_at (home_blocks p) k ≡ slice_index_or p k []
 at_home p k h = places.at_home p k h
 
 -- block j of n from k on
-pub block_of : (h : List (List ℕ)) (k n j : ℕ) → j < n → slice_index_or (blocks_at h k n) j [] ≡ at h (k + j)
+pub block_of : (h : List (List ℕ)) (k n j : ℕ) → j < n → slice_index_or (blocks_at h k n) j [] ≡ block_at h (k + j)
 block_of h k n j l = places.block_of h k n j l
 
 pub length-blocks : (h : List (List ℕ)) (k n : ℕ) → length (blocks_at h k n) ≡ n

@@ -1,13 +1,13 @@
 -- What is read of the home blocks.
 use Rattle.std.specs.Prelude.{◌≡◌, ℕ, Bool, true, ◌&&◌, List, Some, None, Option, nat_le, nat_lt, slice_index, if◌then◌else◌}
 use Rattle.std.specs.Str.{bytes_eq}
-use Rattle.journals.specs.State.{State, IsOn, size}
+use Rattle.journals.specs.JournalState.{JournalState, IsOn, size}
 use Rattle.records.specs.declared.record.Record.{Record}
 use Rattle.image.specs.Home.{items_on, word_on, record_on}
 use Rattle.image.specs.Layout.{lawful_size}
 
 -- on, and of lawful size: a block of the image is read
-pub record Readable (d : State) : Type 0 where
+pub record Readable (d : JournalState) : Type 0 where
   pub on : IsOn d
   pub fits : lawful_size (size d) ≡ true
 

@@ -10,7 +10,8 @@ use crate::part::Part;
 use layout::{codes_block, read_codes, read_rows, rows_block};
 use rights::Row;
 
-// Codes and rows have functions of their own: one for both would ask its callers that two lengths fit.
+// Codes and rows have functions of their own: one for both would ask its callers that two lengths
+// fit.
 /// The 64 codes that eight blocks hold.
 pub fn codes_in(blocks: &[[u8; 64]; 8]) -> [u64; 64]
     ensures value { result ≡ flat_map codes_of blocks.now }
@@ -36,8 +37,9 @@ pub fn rows_in(blocks: &[[u8; 64]; 8]) -> [Row; 32]
 }
 
 /// The eight blocks of 64 codes.
-// Tried: `array::from_fn` over `as_chunks`, and a `for` over `iter_mut().zip(..)`. Of the first, what the closure knows of the
-// codes that it captured does not reach the proof; of the second, what the loop wrote does not.
+// A loop over the index: of `array::from_fn` over `as_chunks`, what the closure knows of the codes
+// that it captured does not reach the proof, and of a `for` over `iter_mut().zip(..)`, what the
+// loop wrote does not.
 pub fn codes_blocks(codes: &[u64; 64]) -> [[u8; 64]; 8]
     ensures value { result ≡ blocks_of_codes codes.now }
 {

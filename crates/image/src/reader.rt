@@ -1,14 +1,14 @@
 ghost use Rattle.std.specs.Prelude.{◌≡◌, ◌<◌, ◌≤◌};
-ghost use Rattle.journals.specs.State.{size, home_of};
-ghost use Rattle.carrying.specs.Standing.{standing_of};
-ghost use Rattle.image.specs.Home.{at, part_on, head_on, opening_on, rows_on, standing_with};
+ghost use Rattle.journals.specs.JournalState.{size, home_of};
+ghost use Rattle.applying.specs.BookState.{state_of};
+ghost use Rattle.image.specs.Home.{block_at, part_on, head_on, opening_on, rows_on, state_with};
 ghost use Rattle.image.specs.Layout.{head_block, room};
 ghost use Rattle.image.specs.Reading.{code_on, is_word_on, record_within};
 
-use crate::numbers::{HEAD, item_block, record_block, roll_block, room_on};
+use crate::block_numbers::{HEAD, item_block, record_block, roll_block, room_on};
 use crate::part::Part;
 use crate::parts::{codes_in, rows_in};
-use carrying::Held;
+use applying::BookState;
 use drives::Drive;
 use journals::Journal;
 use layout::{Head, head_fields, is_word_at, read_code};
@@ -16,8 +16,9 @@ use records::{Record, decode};
 use rights::Row;
 use std::marker::Model;
 
-/// What is read of the home blocks of a drive that is on and has a lawful size, so that no read of a block of the image fails. It
-/// keeps nothing: each call reads the blocks that it needs, each once.
+/// What is read of the home blocks of a drive that is on and has a lawful size, so that no read of
+/// a block of the image fails. It keeps nothing: each call reads the blocks that it needs, each
+/// once.
 #[derive(Drop)]
 pub struct Reader<'a, D: Drive> {
     pub journal: &'a Journal<D>,
@@ -25,10 +26,10 @@ pub struct Reader<'a, D: Drive> {
 
 /// A reader is seen as the state of its journal.
 impl<'a, D: Drive> Model for Reader<'a, D> {
-    ghost use Rattle.journals.specs.State.{State};
+    ghost use Rattle.journals.specs.JournalState.{JournalState};
     ghost use Rattle.image.specs.Reading.{Readable};
 
-    ghost Value = { State };
+    ghost Value = { JournalState };
 
     ghost view = { λ r. r.journal.now };
 
@@ -40,7 +41,7 @@ impl<'a, D: Drive> Reader<'a, D> {
     fn block(&self, block: u64) -> [u8; 64]
         requires low { head_block ≤ block }
         requires within { block < size self.now }
-        ensures value { result ≡ at (home_of self.now) block }
+        ensures value { result ≡ block_at (home_of self.now) block }
     {
         match self.journal.read(block) {
             Ok(content) => content,
@@ -57,7 +58,7 @@ impl<'a, D: Drive> Reader<'a, D> {
 
     /// What the head's block holds.
     pub fn head_block(&self) -> [u8; 64]
-        ensures value { result ≡ at (home_of self.now) head_block }
+        ensures value { result ≡ block_at (home_of self.now) head_block }
     {
         let _ = &self.journal;
         self.block(HEAD)
@@ -77,7 +78,8 @@ impl<'a, D: Drive> Reader<'a, D> {
         let _ = &self.journal;
         let first = part.first();
         let mut found = [[0; 64]; 8];
-        // Tried: `array::try_from_fn`. What it promises says nothing of the journal that its closure borrows.
+        // A loop over the index: what `array::try_from_fn` promises says nothing of the journal
+        // that its closure borrows.
         for i in 0..8 {
             found[i] = self.block(first + i as u64);
         }
@@ -117,8 +119,8 @@ impl<'a, D: Drive> Reader<'a, D> {
         user <= 15 && is_word_at(&self.block(roll_block(user)), user as usize % 8, word)
     }
 
-    /// A record of the audit, by its number, from 1 on: none where there is no room for so many, and where its block is not a
-    /// record's exact form with that number.
+    /// A record of the audit, by its number, from 1 on: none where there is no room for so many,
+    /// and where its block is not a record's exact form with that number.
     pub fn record(&self, number: u32) -> Option<Record>
         ensures value { result ≡ record_within (room (size self.now)) (home_of self.now) number }
     {
@@ -130,11 +132,11 @@ impl<'a, D: Drive> Reader<'a, D> {
     }
 
     /// What the books hold, under this head.
-    pub fn held(&self, head: Head) -> Held
-        ensures value { standing_of result ≡ standing_with (home_of self.now) head.count }
+    pub fn state(&self, head: Head) -> BookState
+        ensures value { state_of result ≡ state_with (home_of self.now) head.count }
         ensures room { result.room ≡ room (size self.now) }
     {
-        Held {
+        BookState {
             items: codes_in(&self.part(Part::Items)),
             rows: self.rows(),
             count: u64::from(head.count),

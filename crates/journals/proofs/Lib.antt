@@ -1,7 +1,7 @@
-pub mod Writing
-pub mod Mapped
-pub mod Crash
-pub mod Staging
-pub mod Whole
-pub mod Finishing
-pub mod Runs
+pub mod WriteOneMore
+pub mod MappedFault
+pub mod CutWhileInstalling
+pub mod CutBeforeInstalling
+pub mod ChangeIsAtomic
+pub mod FinishingLeaves
+pub mod WriteRuns

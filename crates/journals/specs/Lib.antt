@@ -1,7 +1,7 @@
-pub mod Numbers
+pub mod Reported
 pub mod Redo
-pub mod State
+pub mod JournalState
 pub mod Steps
 pub mod Outcomes
-pub mod Laying
+pub mod Initializing
 pub mod Laws

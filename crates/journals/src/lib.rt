@@ -1,13 +1,14 @@
-// A redo journal over any drive: a change of up to six home blocks stands whole or not at all, whatever power does and
-// in whatever order the drive keeps its writes. Block 0 is the commit block, 1 to 6 are slots, the rest home blocks.
+// A redo journal over any drive: a change of up to six home blocks stands whole or not at all,
+// whatever power does and in whatever order the drive keeps its writes. Block 0 is the commit
+// block, 1 to 6 are slots, the rest home blocks.
 #![tactic(auto)]
 
-mod fault;
+mod cut_place;
+mod faults;
+mod initializing;
 mod journal;
-mod laying;
-mod place;
 mod steps;
 
-pub use fault::Fault;
-pub use journal::{ChangeFault, FinishFault, Journal};
-pub use place::Place;
+pub use cut_place::CutPlace;
+pub use faults::{ChangeFault, FinishFault, JournalFault};
+pub use journal::Journal;

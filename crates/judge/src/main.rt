@@ -1,20 +1,22 @@
-// `judge`: takes images of drives as files, finishes each in memory, and prints the verdict: accepted, with its count and
-// its audit, or the refusal with number, layer and place. The files are only read.
+// `judge`: takes images of drives as files, finishes each in memory, and prints the verdict:
+// accepted, with its count and its audit, or the refusal with number, layer and place. The files
+// are only read.
 #![tactic(auto)]
 
+ghost use Rattle.std.specs.Prelude.{⊤};
+
 use books::Book;
-use image::record_block;
+use files::read_file;
+use image::{inspect, record_block};
 use journals::Journal;
-use judging::inspect;
-use ledger::Ledger;
 use records::decode;
-use script::BookName;
-use std::{env, fs};
-use stock::Stock;
+use registry::{BookName, BookVisitor};
+use std::env;
 use trial::TrialDrive;
 
 const HELP: &str = "usage: judge ledger FILE... stock FILE...
-Judges each FILE as the image of a drive that keeps the book named before it, and prints the verdict.
+Judges each FILE as the image of a drive that keeps the book named before it, \
+and prints the verdict.
 Nothing is written back. docs/IMAGE.md has the form of an image.";
 
 /// The audit of an image that was accepted, a line for each record.
@@ -31,43 +33,44 @@ fn print_audit(rt: &HostRuntime, journal: &Journal<TrialDrive>, count: u64) -> a
     Ok(())
 }
 
-/// The verdict on an image, and its audit.
-fn print_verdict<B: Book>(
-    rt: &HostRuntime,
-    book: &B,
-    name: &str,
-    image: &mut [u8],
-) -> anyhow::Result<()> {
-    let mut journal = Journal::over(TrialDrive::over(image, &[]));
-    match inspect(&mut journal, book) {
-        Ok(count) => {
-            println!(rt; "{name}: accepted, records: {count}")?;
-            print_audit(rt, &journal, count)
-        }
-        Err(refusal) => {
-            println!(rt; "{name}: {refusal}")?;
-            Ok(())
+/// An image that is to be judged, and the name of its file.
+#[derive(Drop)]
+struct Image<'a> {
+    rt: &'a HostRuntime,
+    name: &'a str,
+    bytes: &'a mut [u8],
+}
+
+impl BookVisitor for Image<'_> {
+    type Output = anyhow::Result<()>;
+
+    ghost visit_gives = { λ image m given. ⊤ };
+
+    /// Prints the verdict on the image as that of a drive that keeps the book, and its audit.
+    fn visit<B: Book + Copy + Drop>(self, book: B) -> anyhow::Result<()> {
+        let Image { rt, name, bytes } = self;
+        let mut journal = Journal::over(TrialDrive::over(bytes, &[]));
+        match inspect(&mut journal, &book) {
+            Ok(count) => {
+                println!(rt; "{name}: accepted, records: {count}")?;
+                print_audit(rt, &journal, count)
+            }
+            Err(refusal) => {
+                println!(rt; "{name}: {refusal}")?;
+                Ok(())
+            }
         }
     }
 }
 
-/// The bytes of a file, or a line that says why they cannot be had.
-// `house` has its own: a crate for these lines alone would be no plainer.
-fn read_file(rt: &HostRuntime, path: &str) -> anyhow::Result<Vec<u8>> {
-    fs::read(rt, path).or_else(|error| {
-        eprintln!(rt; "judge: cannot read {path}: {error}")?;
-        Err(error.into())
-    })
-}
-
-/// Judges one file.
+/// Judges one file as the image of a drive that keeps this book.
 fn judge_file(rt: &HostRuntime, book: BookName, path: &str) -> anyhow::Result<()> {
-    let mut image = read_file(rt, path)?;
-    // Each book is a type of its own, with constants and an item type, so no enum and no `dyn` stands for both: each arm names one.
-    match book {
-        BookName::Ledger => print_verdict(rt, &Ledger, path, image.as_mut_slice()),
-        BookName::Stock => print_verdict(rt, &Stock, path, image.as_mut_slice()),
-    }
+    let mut bytes = read_file(rt, "judge", path)?;
+    book.accept(Image {
+        rt,
+        name: path,
+        bytes: bytes.as_mut_slice(),
+    })
 }
 
 fn main(rt: HostRuntime) -> anyhow::Result<()> {

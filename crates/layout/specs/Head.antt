@@ -21,7 +21,8 @@ head_of c =
     else if not (bytes_eq (head_form (fields_of_head c)) c) then None
     else Some (fields_of_head c)
 
--- a block is the form of a head: its house number is not 0, and house number and count are of 32 bits
+-- a block is the form of a head: its house number is not 0, and house number and count are of 32
+-- bits
 pub record HeadForm (h : Head) (c : List ℕ) : Type 0 where
   pub some_house : h.house ≢ 0
   pub house_fits : h.house < 2 ^ 32

@@ -1,4 +1,5 @@
--- What proofs elsewhere cite: what is written in a block is read back, and a block is the form of what is read from it.
+-- What proofs elsewhere cite: what is written in a block is read back, and a block is the form of
+-- what is read from it.
 use Rattle.std.proofs.Common.{◌≡◌, MatchOption, Option, ℕ, ◌+◌, ◌-◌, ◌*◌, ◌^◌, ◌<◌, ◌≤◌, Bool, true, false, eqb, List, [], ◌∷◌, ◌++◌, map, length, get_or, take, drop, Some, None, sym, refl, ap, ◌∙◌, subst, arith}
 use Rattle.std.specs.Prelude.{not, if◌then◌else◌}
 use Rattle.std.specs.Int.{w32, w64, to_le_bytes}
@@ -18,7 +19,7 @@ use Rattle.layout.specs.Codes.{codes_form, codes_of}
 use Rattle.layout.specs.Rows.{rows_form, rows_of}
 use Rattle.layout.specs.Head.{head_form, fields_of_head, head_of, HeadForm, IsNoHead}
 use Rattle.layout.specs.Roll.{word_in, first_words, last_words}
-use Rattle.layout.specs.Rounds.{CodesFit, RowsFit, SpareZero, ReadBack}
+use Rattle.layout.specs.ReadBack.{CodesFit, RowsFit, SpareZero, BlocksReadBack}
 
 -- a list of known length, taken apart
 pub apart : {X : Type 0} (xs : List X) (n : ℕ) (d : X) → length xs ≡ n → xs ≡ map (λ i. get_or xs i d) (range_with_len 0 n)
@@ -180,7 +181,8 @@ tested_none f false false e = refl
 pub other_form : (c : List ℕ) → not (bytes_eq (head_form (fields_of_head c)) c) ≡ true → None ≡ head_of c
 other_form c e = tested_none (fields_of_head c) _ _ e
 
--- what the definition reads from a block is a head whose form it is, and where it reads nothing it is no head's form
+-- what the definition reads from a block is a head whose form it is, and where it reads nothing it
+-- is no head's form
 pub head_reads : (c : List ℕ) (o : Option Head) → o ≡ head_of c → MatchOption o (IsNoHead c) (λ h. HeadForm h c)
 head_reads c None e = λ h f. none-some h (e ∙ head_read h c f)
 head_reads c (Some h) e = head_exact h c (sym e)
@@ -198,7 +200,7 @@ last_read roll u h =
     let at : 64 + 8 * (u - 8) ≡ 8 * u = omega arith in
     ap (take 8) (drop-drop (8 * (u - 8)) 64 roll ∙ ap (λ z. drop z roll) at)
 
-pub read_back : ReadBack
+pub read_back : BlocksReadBack
 read_back =
     record {
       codes_read = codes_read;

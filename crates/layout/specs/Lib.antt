@@ -2,5 +2,5 @@ pub mod Head
 pub mod Codes
 pub mod Rows
 pub mod Roll
-pub mod Rounds
+pub mod ReadBack
 pub mod Laws

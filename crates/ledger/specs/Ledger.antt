@@ -1,14 +1,15 @@
--- The ledger: signed balances in pence. Items 0 to 7 are the house's own accounts, 8 to 63 the depositors'.
+-- The ledger: signed balances in pence. Items 0 to 7 are the house's own accounts, 8 to 63 the
+-- depositors'.
 use Rattle.std.specs.Prelude.{ℕ, Bool, false, not, ◌&&◌, ◌||◌, List, [], ◌∷◌, map, length, ℤ, pos, negsuc, ◌+ℤ◌, neg_ℤ, Some, None, Ok, Err, codes, fold, Option, Result, ◌==◌, int_le, nat_le, nat_lt, if◌then◌else◌}
 use Rattle.std.specs.List.{list_all}
 use Rattle.std.specs.Int.{w64}
 use Rattle.std.proofs.Common.{to_z, of_z}
-use Rattle.refusals.specs.declared.step_place.StepPlace.{StepPlace}
-use Rattle.refusals.specs.declared.step_place.StepPlace.TheVariants.{Items, Amount, Values}
+use Rattle.refusals.specs.declared.places.StepPlace.{StepPlace}
+use Rattle.refusals.specs.declared.places.StepPlace.TheVariants.{Items, Amount, Values}
 use Rattle.books.specs.declared.draft.Draft.{Draft}
 use Rattle.books.specs.Meaning.{Meaning, amount_ok}
-use Rattle.ledger.specs.Procedures.{number}
-use Rattle.ledger.specs.declared.Procedure.TheVariants.{Charge, Receipt, Shift}
+use Rattle.ledger.specs.Procedures.{procedure_number}
+use Rattle.ledger.specs.declared.procedure.Procedure.TheVariants.{Charge, Receipt, Shift}
 
 -- the balance that a code stands for: two's complement at 64 bits
 abbrev pub balance : ℕ → ℤ
@@ -48,9 +49,9 @@ of_one_side i j = (own i && own j) || (depositor i && depositor j)
 -- charge: a is a depositor's, b the house's; receipt: the reverse; shift: two items of one side
 abbrev pub ledger_takes : Draft → Bool
 ledger_takes d =
-    if d.procedure == number Charge then depositor d.a && own d.b
-    else if d.procedure == number Receipt then own d.a && depositor d.b
-    else if d.procedure == number Shift then not (d.a == d.b) && of_one_side d.a d.b
+    if d.procedure == procedure_number Charge then depositor d.a && own d.b
+    else if d.procedure == procedure_number Receipt then own d.a && depositor d.b
+    else if d.procedure == procedure_number Shift then not (d.a == d.b) && of_one_side d.a d.b
     else false
 
 -- a balance lies within its bounds before and after a change

@@ -1,9 +1,9 @@
 -- The ledger's procedures by their numbers.
 use Rattle.std.specs.Prelude.{ℕ}
-use Rattle.ledger.specs.declared.Procedure.{Procedure}
-use Rattle.ledger.specs.declared.Procedure.TheVariants.{Charge, Receipt, Shift}
+use Rattle.ledger.specs.declared.procedure.Procedure.{Procedure}
+use Rattle.ledger.specs.declared.procedure.Procedure.TheVariants.{Charge, Receipt, Shift}
 
-abbrev pub number : Procedure → ℕ
-number Charge = 1
-number Receipt = 2
-number Shift = 3
+abbrev pub procedure_number : Procedure → ℕ
+procedure_number Charge = 1
+procedure_number Receipt = 2
+procedure_number Shift = 3

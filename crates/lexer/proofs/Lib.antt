@@ -1,2 +1,2 @@
-mod Cuts
-mod Values
+mod FirstPieces
+mod DigitValues

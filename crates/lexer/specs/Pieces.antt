@@ -16,10 +16,10 @@ abbrev pub printable : ℕ → Bool
 printable b = (nat_le 32 b && nat_le b 126) || blank b
 
 -- the pieces that are not empty
-abbrev pub filled : List (List ℕ) → List (List ℕ)
-filled [] = []
-filled ([] ∷ ps) = filled ps
-filled ((b ∷ p) ∷ ps) = (b ∷ p) ∷ filled ps
+abbrev pub nonempty : List (List ℕ) → List (List ℕ)
+nonempty [] = []
+nonempty ([] ∷ ps) = nonempty ps
+nonempty ((b ∷ p) ∷ ps) = (b ∷ p) ∷ nonempty ps
 
 -- the lines of a text: n line feeds give n + 1 lines
 abbrev pub lines : List ℕ → List (List ℕ)
@@ -27,7 +27,7 @@ lines text = slice_split newline text
 
 -- the words of a line: what stands between blanks
 abbrev pub words : List ℕ → List (List ℕ)
-words line = filled (slice_split blank line)
+words line = nonempty (slice_split blank line)
 
 -- a line without its comment, which begins at the first '#'
 abbrev pub uncommented : List ℕ → List ℕ

@@ -2,8 +2,12 @@
 // Every function takes any bytes.
 #![tactic(auto)]
 
+mod lines;
 mod numerals;
-mod pieces;
+mod text;
+mod words;
 
+pub use lines::Lines;
 pub use numerals::typed_number;
-pub use pieces::{Lines, Words, is_text, without_comment};
+pub use text::{is_text, without_comment};
+pub use words::Words;

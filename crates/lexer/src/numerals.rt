@@ -20,7 +20,8 @@ fn number_in(base: u32, digits: &[u8]) -> Option<u64>
     Some(value)
 }
 
-/// The number that a word types, in decimal digits, or in hexadecimal ones after `0x`, if it fits 64 bits.
+/// The number that a word types, in decimal digits, or in hexadecimal ones after `0x`, if it fits
+/// 64 bits.
 pub fn typed_number(word: &[u8]) -> Option<u64>
     ensures value { result ≡ number_typed word.now }
 {

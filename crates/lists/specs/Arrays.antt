@@ -1,5 +1,5 @@
--- Arrays that a closure makes, one element for each index or for each element of another, where each call leaves the
--- closure as it was.
+-- Arrays that a closure makes, one element for each index or for each element of another, where
+-- each call leaves the closure as it was.
 use Rattle.std.proofs.Common.{◌≡◌, ℕ, zero, suc, ◌+◌, ◌<◌, ◌≤◌, List, length, get_or, map, subst, sym, ap, ◌∙◌, inl, inr, arith}
 use denote.Param.Members.{Mut, Called}
 use Rattle.std.specs.Array.{IsFromFnResult, IsFromFnResultFrom, IsMapOf, MapsFrom}

@@ -1,4 +1,5 @@
-mod Tests
-mod Fresh
-mod Formatted
-mod Made
+mod TestsPassed
+mod RecordApplied
+mod UpdateMade
+mod LeavesSteady
+mod Formatting

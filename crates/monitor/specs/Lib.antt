@@ -1,7 +1,6 @@
 pub mod Slips
 pub mod Stages
-pub mod Machine
+pub mod MonitorState
 pub mod Asking
-pub mod Changing
 pub mod Calls
 pub mod Starting

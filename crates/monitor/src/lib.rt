@@ -1,21 +1,17 @@
-// The monitor: every call on a drive and a book, and slips, which are notes that one person entered and that wait for a
-// second. Only this crate can make a slip. Each call asks nothing of its caller, and its promise is a definition of specs/.
+// The monitor: every call on a drive and a book, and slips, which are notes that one person
+// entered and that wait for a second. Only this crate can make a slip. Each call asks nothing of
+// its caller, and its promise is a definition of specs/.
 #![tactic(auto)]
 
-mod attaching;
-mod certifying;
-mod changing;
-mod entered;
-mod entering;
-mod formatting;
-mod looking;
-mod making;
+mod applied;
+mod checks;
+mod first_blocks;
 mod monitor;
-mod posting;
 mod slip;
+mod slip_numbers;
 mod stage;
 
-pub use entered::Entered;
 pub use monitor::Monitor;
 pub use slip::Slip;
+pub use slip_numbers::SlipNumbers;
 pub use stage::Stage;

@@ -1,13 +1,13 @@
 ghost use Rattle.std.specs.Prelude.{◌≡◌, ◌<◌, true, OnOk};
 ghost use Rattle.notes.specs.Notes.{IsNote};
-ghost use Rattle.carrying.specs.Carried.{posted};
-ghost use Rattle.carrying.specs.Results.{Leaves};
-ghost use Rattle.carrying.specs.Standing.{standing_of};
-ghost use Rattle.monitor.specs.Slips.{Paper, unspent, posting_by};
+ghost use Rattle.applying.specs.Applied.{posted};
+ghost use Rattle.applying.specs.Results.{Leaves};
+ghost use Rattle.applying.specs.BookState.{state_of};
+ghost use Rattle.monitor.specs.Slips.{SlipValue, unspent, posting_by};
 
-use crate::entered::Entered;
+use crate::slip_numbers::SlipNumbers;
+use applying::{BookState, posting_of};
 use books::Book;
-use carrying::{Held, posting_of};
 use notes::Note;
 use records::Posting;
 use refusals::Refusal;
@@ -25,9 +25,9 @@ pub struct Slip {
 
 /// A slip is seen as its numbers, and whether it is spent.
 impl Model for Slip {
-    ghost use Rattle.monitor.specs.Slips.{Paper};
+    ghost use Rattle.monitor.specs.Slips.{SlipValue};
 
-    ghost Value = { Paper };
+    ghost Value = { SlipValue };
 
     ghost view = { λ s. record {
       entered = record { numbers = s.note; enterer = s.enterer; house = s.house };
@@ -63,11 +63,11 @@ impl Slip {
     }
 
     /// The numbers that the slip holds.
-    pub fn entered(&self) -> Entered
+    pub fn entered(&self) -> SlipNumbers
         ensures value { result ≡ self.now.entered }
         ensures is_note { IsNote result.numbers }
     {
-        Entered {
+        SlipNumbers {
             numbers: self.note.numbers(),
             enterer: self.enterer,
             house: self.house,
@@ -81,19 +81,20 @@ impl Slip {
         posting_of(&self.note, self.enterer, countersigner)
     }
 
-    /// Posts the slip's note on what is held, countersigned by a second user, or refuses it and changes nothing.
+    /// Posts the slip's note on a state of the books, countersigned by a second user, or refuses it
+    /// and changes nothing.
     pub(crate) fn post<B: Book>(
         &self,
         book: &B,
-        held: &mut Held,
+        state: &mut BookState,
         countersigner: u8,
     ) -> Result<(), Refusal>
-        ensures leaves { Leaves (posted B.meaning held.old.room (standing_of held.old)
+        ensures leaves { Leaves (posted B.meaning state.old.room (state_of state.old)
             (posting_by self.now.entered countersigner))
-            held.old result held.new }
-        ensures had_room { OnOk result (held.old.count < held.old.room) }
+            state.old result state.new }
+        ensures had_room { OnOk result (state.old.count < state.old.room) }
     {
-        held.post(book, &self.note, self.enterer, countersigner)
+        state.post(book, &self.note, self.enterer, countersigner)
     }
 
     /// Marks the slip as spent, so that it may be let fall.
@@ -104,7 +105,7 @@ impl Slip {
     }
 
     /// Ends the slip without a posting, and hands out its numbers.
-    pub fn withdraw(mut self) -> Entered
+    pub fn withdraw(mut self) -> SlipNumbers
         ensures value { result ≡ self.entered }
     {
         self.spend();

@@ -2,7 +2,7 @@
 #![tactic(auto)]
 
 mod note;
-mod numbers;
+mod note_numbers;
 
 pub use note::{Note, make_note};
-pub use numbers::Numbers;
+pub use note_numbers::NoteNumbers;

@@ -1,12 +1,13 @@
 ghost use Rattle.std.specs.Prelude.{◌≡◌};
 ghost use Rattle.notes.specs.Notes.{IsNote, noted};
 
-use crate::numbers::Numbers;
+use crate::note_numbers::NoteNumbers;
 use books::{Book, Draft, has_procedure};
 use refusals::{Reason, Refusal};
 use std::marker::Model;
 
-/// A note: a draft that passed its tests. It is entered once, and is no more than its numbers until then.
+/// A note: a draft that passed its tests. It is entered once, and is no more than its numbers until
+/// then.
 #[derive(Drop)]
 pub struct Note {
     kind: u8,
@@ -17,9 +18,9 @@ pub struct Note {
 }
 
 impl Model for Note {
-    ghost use Rattle.notes.specs.declared.numbers.Numbers.{Numbers};
+    ghost use Rattle.notes.specs.declared.note_numbers.NoteNumbers.{NoteNumbers};
 
-    ghost Value = { Numbers };
+    ghost Value = { NoteNumbers };
 
     ghost use Rattle.notes.specs.Notes.{IsNote, numbers_of};
 
@@ -29,12 +30,13 @@ impl Model for Note {
 }
 
 impl Note {
-    /// The numbers of the note: two different items from 0 to 63, and an amount from 1 to 1,000,000,000.
-    pub fn numbers(&self) -> Numbers
+    /// The numbers of the note: two different items from 0 to 63, and an amount from 1 to
+    /// 1,000,000,000.
+    pub fn numbers(&self) -> NoteNumbers
         ensures value { result ≡ self.now }
         ensures is_note { IsNote result }
     {
-        Numbers {
+        NoteNumbers {
             kind: self.kind,
             procedure: self.procedure,
             a: self.a,
@@ -44,9 +46,9 @@ impl Note {
     }
 }
 
-/// Makes a note of a draft, or says which of its numbers is at fault. The tests, in this order: the book has the procedure
-/// (else refusal 1), items a and b are at most 63 (2), they differ (3), and the amount is from 1 to the book's ceiling (4).
-/// The place of the refusal is the number at fault.
+/// Makes a note of a draft, or says which of its numbers is at fault. The tests, in this order: the
+/// book has the procedure (else refusal 1), items a and b are at most 63 (2), they differ (3), and
+/// the amount is from 1 to the book's ceiling (4). The place of the refusal is the number at fault.
 pub fn make_note<B: Book>(book: &B, draft: Draft) -> Result<Note, Refusal>
     ensures value { result ≡ noted B.meaning draft }
 {

@@ -1,1 +1,1 @@
-mod Filtered
+mod FilterKeeps

@@ -9,7 +9,8 @@ use Rattle.records.specs.declared.fields.Fields.{Fields}
 use Rattle.records.specs.declared.record.Record.{Record}
 use Rattle.records.specs.declared.record.Record.TheVariants.{Posting, Certification, Strike}
 
--- kind, first user, second user, procedure, role, row, a and b in a byte each, then n, mask and record number, then zeros
+-- kind, first user, second user, procedure, role, row, a and b in a byte each, then n, mask and
+-- record number, then zeros
 abbrev pub form : Fields → ℕ → List ℕ
 form f number =
     f.kind ∷ (f.first ∷ (f.second ∷ (f.procedure ∷ (f.role ∷ (f.row ∷ (f.a ∷ (f.b
@@ -58,10 +59,10 @@ abbrev pub encoded : ℕ → Record → List ℕ
 encoded number x = form (fields_of x) number
 
 -- the amount or mask is of 64 bits
-abbrev pub Fits : Record → Type 0
-Fits (Posting p) = p.amount < 2 ^ 64
-Fits (Certification c) = c.mask < 2 ^ 64
-Fits (Strike row) = Unit {0}
+abbrev pub FitsRecord : Record → Type 0
+FitsRecord (Posting p) = p.amount < 2 ^ 64
+FitsRecord (Certification c) = c.mask < 2 ^ 64
+FitsRecord (Strike row) = Unit {0}
 
 -- the posting that a block's fields give, and the certification
 abbrev pub posting_in : List ℕ → Record
@@ -98,17 +99,17 @@ parsed c =
     else None
 
 -- an encoded record is read back from its block
-abbrev pub ReadBack : Type 0
-ReadBack = (number : ℕ) (x : Record) → Fits x → parsed (encoded number x) ≡ Some x
+abbrev pub RecordsReadBack : Type 0
+RecordsReadBack = (number : ℕ) (x : Record) → FitsRecord x → parsed (encoded number x) ≡ Some x
 
 -- a block is a record's exact form, with this number
 pub record Exact (number : ℕ) (x : Record) (c : List ℕ) : Type 0 where
-  pub fits : Fits x
+  pub fits : FitsRecord x
   pub form : encoded number x ≡ c
 
 -- a block is no record's form, with this number
 abbrev pub IsNoForm : ℕ → List ℕ → Type 0
-IsNoForm number c = (x : Record) → Fits x → encoded number x ≢ c
+IsNoForm number c = (x : Record) → FitsRecord x → encoded number x ≢ c
 
 -- the record, if the block is its form
 abbrev pub if_form : ℕ → List ℕ → Record → Option Record
@@ -118,9 +119,9 @@ if_form number c x = if bytes_eq (encoded number x) c then Some x else None
 abbrev pub decoded : ℕ → List ℕ → Option Record
 decoded number c = option_and_then (if_form number c) (parsed c)
 
--- an encoded record is read back from its block, what is read is what the block is the form of, and a block from which
--- nothing is read is no record's form
+-- an encoded record is read back from its block, what is read is what the block is the form of, and
+-- a block from which nothing is read is no record's form
 pub record OneForm : Type 0 where
-  pub read_back : (number : ℕ) (x : Record) → Fits x → decoded number (encoded number x) ≡ Some x
+  pub read_back : (number : ℕ) (x : Record) → FitsRecord x → decoded number (encoded number x) ≡ Some x
   pub exact : (number : ℕ) (x : Record) (c : List ℕ) → decoded number c ≡ Some x → Exact number x c
   pub no_other : (number : ℕ) (x : Record) (c : List ℕ) → decoded number c ≡ None → Exact number x c → ⊥

@@ -1,4 +1,5 @@
--- What proofs elsewhere cite: a record is read back from its block, and a block is the form of what is read from it.
+-- What proofs elsewhere cite: a record is read back from its block, and a block is the form of what
+-- is read from it.
 use Rattle.std.proofs.Common.{◌≡◌, ℕ, List, Some, None, Option, MatchOption, sym, refl, ap, ◌∙◌, arith}
 use Rattle.std.specs.Bool.{if◌then◌else◌}
 use Rattle.std.specs.Option.{option_and_then}
@@ -8,18 +9,18 @@ use Rattle.std.proofs.lemmas.Slice.Eq.{bytes_eq-Decides}
 use Rattle.std.proofs.lemmas.Option.{none-some, cond_some}
 use Rattle.encoding.specs.Numbers.{number_at}
 use Rattle.encoding.specs.Laws.{eight_read}
-use Rattle.records.specs.Form.{encoded, Fits, parsed, Exact, IsNoForm, if_form, decoded, OneForm}
+use Rattle.records.specs.Form.{encoded, FitsRecord, parsed, Exact, IsNoForm, if_form, decoded, OneForm}
 use Rattle.records.specs.declared.record.Record.{Record}
 use Rattle.records.specs.declared.record.Record.TheVariants.{Posting, Certification, Strike}
 
 -- a record's fields are read back
-pub parsed_back : (k : ℕ) (x : Record) → Fits x → parsed (encoded k x) ≡ Some x
+pub parsed_back : (k : ℕ) (x : Record) → FitsRecord x → parsed (encoded k x) ≡ Some x
 parsed_back k (Posting p) h = ap (λ z. Some (Posting (record { enterer = p.enterer; countersigner = p.countersigner; procedure = p.procedure; a = p.a; b = p.b; amount = z }))) (eight_read p.amount h)
 parsed_back k (Certification c) h = ap (λ z. Some (Certification (record { user = c.user; procedure = c.procedure; role = c.role; row = c.row; mask = z }))) (eight_read c.mask h)
 parsed_back k (Strike w) h = refl
 
 -- the record is read back
-pub read_back : (k : ℕ) (x : Record) → Fits x → decoded k (encoded k x) ≡ Some x
+pub read_back : (k : ℕ) (x : Record) → FitsRecord x → decoded k (encoded k x) ≡ Some x
 read_back k x h =
     ap (option_and_then (if_form k (encoded k x))) (parsed_back k x h)
     ∙ ap (λ z. if z then Some x else None) ((bytes_eq-Decides (encoded k x) (encoded k x)).1 refl)
@@ -32,7 +33,7 @@ form_of k c x (Some y) e =
     (ap Some t.1, sym (ap (encoded k) t.1) ∙ (bytes_eq-Decides (encoded k y) c).0 t.0)
 
 -- what is read back from its own form fits
-fits_back : (k : ℕ) (x : Record) → parsed (encoded k x) ≡ Some x → Fits x
+fits_back : (k : ℕ) (x : Record) → parsed (encoded k x) ≡ Some x → FitsRecord x
 fits_back k (Posting p) h =
     let same : number_at w64 (encoded k (Posting p)) 8 ≡ p.amount = cc in
     omega arith

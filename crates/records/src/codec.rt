@@ -1,5 +1,5 @@
 ghost use Rattle.std.specs.Prelude.{◌≡◌, MatchOption};
-ghost use Rattle.records.specs.Form.{form, encoded, parsed, decoded, IsNoForm, ReadBack, OneForm};
+ghost use Rattle.records.specs.Form.{form, encoded, parsed, decoded, IsNoForm, RecordsReadBack, OneForm};
 
 use crate::fields::Fields;
 use crate::kind::Kind;
@@ -68,7 +68,7 @@ pub fn decode(block: &[u8; 64], number: u32) -> Option<Record>
 
 /// A theorem: an encoded record is read back from its block.
 pub fn records_are_read_back() -> bool
-    ensures holds { ReadBack }
+    ensures holds { RecordsReadBack }
 {
     true
 }

@@ -3,8 +3,8 @@ ghost use Rattle.std.specs.Prelude.{◌≡◌};
 use crate::kind::Kind;
 use crate::record::Record;
 
-/// What a record's block holds before its number: the kind's number, and a place for whatever a kind may fill. What a
-/// kind does not fill is zero.
+/// What a record's block holds before its number: the kind's number, and a place for whatever a
+/// kind may fill. What a kind does not fill is zero.
 #[derive(Clone, Copy, Default)]
 pub struct Fields {
     pub kind: u8,

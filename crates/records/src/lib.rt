@@ -5,7 +5,6 @@ mod codec;
 mod fields;
 mod kind;
 mod record;
-mod text;
 
 pub use codec::{decode, encode, records_are_read_back, records_have_one_form};
 pub use record::{Certification, Posting, Record};

@@ -1,6 +1,4 @@
-pub mod Numbers
-pub mod Layers
-pub mod Rules
+pub mod Table
 pub mod Places
 pub mod Texts
 pub mod Refused

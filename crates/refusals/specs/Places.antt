@@ -1,13 +1,13 @@
 -- The places that come from a closed list, by the number that people see.
 use Rattle.std.specs.Prelude.{ℕ}
-use Rattle.refusals.specs.declared.step_place.StepPlace.{StepPlace}
-use Rattle.refusals.specs.declared.step_place.StepPlace.TheVariants as step
-use Rattle.refusals.specs.declared.power_place.PowerPlace.{PowerPlace}
-use Rattle.refusals.specs.declared.power_place.PowerPlace.TheVariants as power
-use Rattle.refusals.specs.declared.format_place.FormatPlace.{FormatPlace}
-use Rattle.refusals.specs.declared.format_place.FormatPlace.TheVariants as format
-use Rattle.refusals.specs.declared.row_place.RowPlace.{RowPlace}
-use Rattle.refusals.specs.declared.row_place.RowPlace.TheVariants as row
+use Rattle.refusals.specs.declared.places.StepPlace.{StepPlace}
+use Rattle.refusals.specs.declared.places.StepPlace.TheVariants as step
+use Rattle.refusals.specs.declared.places.PowerPlace.{PowerPlace}
+use Rattle.refusals.specs.declared.places.PowerPlace.TheVariants as power
+use Rattle.refusals.specs.declared.places.FormatPlace.{FormatPlace}
+use Rattle.refusals.specs.declared.places.FormatPlace.TheVariants as format
+use Rattle.refusals.specs.declared.places.RowPlace.{RowPlace}
+use Rattle.refusals.specs.declared.places.RowPlace.TheVariants as row
 
 abbrev pub step_place_number : StepPlace → ℕ
 step_place_number step.Items = 1

@@ -1,8 +1,8 @@
 -- A refusal as an answer, and tests one after another.
 use Rattle.std.specs.Prelude.{ℕ, Ok, Err, Result}
-use Rattle.refusals.specs.declared.reasons.Reason.{Reason}
-use Rattle.refusals.specs.declared.reasons.Reason.TheVariants.{PowerLost}
-use Rattle.refusals.specs.declared.power_place.PowerPlace.{PowerPlace}
+use Rattle.refusals.specs.declared.reason.Reason.{Reason}
+use Rattle.refusals.specs.declared.reason.Reason.TheVariants.{PowerLost}
+use Rattle.refusals.specs.declared.places.PowerPlace.{PowerPlace}
 use Rattle.refusals.specs.declared.refusal.Refusal.{Refusal}
 use Rattle.refusals.specs.Places.{power_place_number}
 

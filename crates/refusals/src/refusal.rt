@@ -1,9 +1,11 @@
 ghost use Rattle.std.specs.Prelude.{◌≡◌, Some};
 ghost use Rattle.refusals.specs.Refused.{lost_at};
-ghost use Rattle.refusals.specs.Texts.{guarded, heading, line};
+ghost use Rattle.refusals.specs.Texts.{rule_text, heading_text, refusal_text};
 
-use crate::power_place::PowerPlace;
-use crate::reasons::{Reason, Rule};
+use crate::entry::entry_of;
+use crate::places::PowerPlace;
+use crate::reason::Reason;
+use crate::rule::Rule;
 use std::fmt;
 
 /// A refusal: why, and a place whose meaning stands at the reason.
@@ -35,7 +37,7 @@ impl Refusal {
 struct Guarded(Option<Rule>);
 
 impl fmt::Display for Guarded {
-    ghost output = { λ g. Some (guarded g.0) };
+    ghost output = { λ g. Some (rule_text g.0) };
 
     fn fmt<W: fmt::Write>(&self, f: &mut fmt::Formatter<W>) -> fmt::Result {
         match self.0 {
@@ -45,27 +47,29 @@ impl fmt::Display for Guarded {
     }
 }
 
-/// The part of a refusal's line that stands before its words: number, layer, rule and place. Where a refusal is told in other
-/// words than its reason's, these follow a heading.
+/// The part of a refusal's line that stands before its words: number, layer, rule and place. Where
+/// a refusal is told in other words than its reason's, these follow a heading.
 #[derive(Clone, Copy, PartialEq, Eq, Debug)]
 pub struct Heading(pub Refusal);
 
 impl fmt::Display for Heading {
-    ghost output = { λ h. Some (heading h.0) };
+    ghost output = { λ h. Some (heading_text h.0) };
 
     fn fmt<W: fmt::Write>(&self, f: &mut fmt::Formatter<W>) -> fmt::Result {
-        let reason = self.0.reason;
+        let row = entry_of(self.0.reason);
+        let rule = Guarded(row.rule);
         let place = self.0.place;
-        let number = u8::from(reason);
-        let layer = reason.layer();
-        let rule = Guarded(reason.rule());
-        write!(f, "refusal {number} ({layer}, {rule}), place {place}")
+        write!(
+            f,
+            "refusal {} ({}, {rule}), place {place}",
+            row.number, row.layer
+        )
     }
 }
 
 /// One line that can be read out on the telephone.
 impl fmt::Display for Refusal {
-    ghost output = { λ r. Some (line r) };
+    ghost output = { λ r. Some (refusal_text r) };
 
     fn fmt<W: fmt::Write>(&self, f: &mut fmt::Formatter<W>) -> fmt::Result {
         let heading = Heading(*self);

@@ -2,9 +2,9 @@
 use Rattle.std.specs.Prelude.{◌≡◌, ℕ, ◌/◌, ◌%◌, ◌^◌, ◌<◌, Bool, true, not, ◌&&◌, ◌||◌, List, length, Some, None, Option, ◌==◌, if◌then◌else◌, slice_index_or}
 use Rattle.std.specs.List.{list_any}
 use Rattle.rights.specs.declared.row.Row.{Row}
-use Rattle.rights.specs.declared.row.Asked.{Asked}
-use Rattle.rights.specs.declared.row.Role.{Role}
-use Rattle.rights.specs.declared.row.Role.TheVariants.{Enter, Countersign}
+use Rattle.rights.specs.declared.row_question.RowQuestion.{RowQuestion}
+use Rattle.rights.specs.declared.role.Role.{Role}
+use Rattle.rights.specs.declared.role.Role.TheVariants.{Enter, Countersign}
 
 -- the number of a role
 abbrev pub role_number : Role → ℕ
@@ -19,8 +19,9 @@ is_role n = n == role_number Enter || n == role_number Countersign
 abbrev pub has_item : ℕ → ℕ → Bool
 has_item mask i = mask / 2 ^ i % 2 == 1
 
--- a row covers an item for a user, procedure and role if it names those three and has the item's bit
-abbrev pub covers : Row → Asked → ℕ → Bool
+-- a row covers an item for a user, procedure and role if it names those three and has the item's
+-- bit
+abbrev pub covers : Row → RowQuestion → ℕ → Bool
 covers w q i =
     (w.user == q.user && (w.procedure == q.procedure && w.role == role_number q.role))
     && has_item w.mask i
@@ -33,15 +34,15 @@ abbrev pub is_free : Row → Bool
 is_free w = (w.user == 0 && w.procedure == 0) && (w.role == 0 && w.mask == 0)
 
 -- some row covers the item
-abbrev pub covered : List Row → Asked → ℕ → Bool
+abbrev pub covered : List Row → RowQuestion → ℕ → Bool
 covered rows q i = list_any (λ w. covers w q i) rows
 
 -- row k is there, and covers the item
-abbrev pub CoversAt : List Row → Asked → ℕ → ℕ → Type 0
+abbrev pub CoversAt : List Row → RowQuestion → ℕ → ℕ → Type 0
 CoversAt rows q i k = (k < length rows) × (covers (slice_index_or rows k free) q i ≡ true)
 
 -- the first of two items that no row covers; none if the user is entitled to both
-abbrev pub uncovered : List Row → Asked → ℕ → ℕ → Option ℕ
+abbrev pub uncovered : List Row → RowQuestion → ℕ → ℕ → Option ℕ
 uncovered rows q a b =
     if not (covered rows q a) then Some a
     else if not (covered rows q b) then Some b

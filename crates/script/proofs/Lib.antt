@@ -1,1 +1,1 @@
-mod Onward
+mod RangeGoesOn

@@ -1,4 +1,4 @@
-pub mod Said
-pub mod Options
+pub mod LineValue
+pub mod OptionDo
 pub mod Grammar
 pub mod Reading

@@ -1,26 +1,20 @@
 ghost use Rattle.std.specs.Prelude.{◌≡◌};
 ghost use Rattle.std.specs.Option.{option_map};
-ghost use Rattle.script.specs.Said.{asked_by};
+ghost use Rattle.script.specs.LineValue.{command_value};
 ghost use Rattle.script.specs.Grammar.{typed_procedure, typed_note as note_by_words, typed_row as row_by_words, note_form, format_form, attach_form, enter_form, countersign_form, withdraw_form, certify_form, strike_form, item_form, record_form};
 
-use crate::line::{BookName, Command, TypedNote};
-use books::{Draft, procedure_named};
+use crate::command::Command;
+use applying::RowDraft;
+use books::Draft;
 use calls::Plain;
-use carrying::RowDraft;
-use ledger::Ledger;
 use lexer::{Words, typed_number};
-use stock::Stock;
+use registry::{BookName, TypedNote};
 
-/// The procedure that a word names in the book, or else types as a number.
+/// The procedure that a word names in the book, or else types as a number of 64 bits.
 fn procedure_of(book: BookName, word: &[u8]) -> Option<u64>
     ensures value { result ≡ typed_procedure book word.now }
 {
-    // Each book is a type of its own, with constants and an item type, so no enum and no `dyn` stands for both: each arm names one.
-    let named = match book {
-        BookName::Ledger => procedure_named(&Ledger, word),
-        BookName::Stock => procedure_named(&Stock, word),
-    };
-    named.or_else(|| typed_number(word))
+    book.procedure_named(word).or_else(|| typed_number(word))
 }
 
 /// The note that four words type.
@@ -44,7 +38,7 @@ fn typed_note(
 
 /// What follows `note`.
 pub(crate) fn note_of<'a>(book: BookName, mut words: Words) -> Option<Command<'a>>
-    ensures value { option_map asked_by result ≡ note_form book words.entry }
+    ensures value { option_map command_value result ≡ note_form book words.entry }
 {
     let procedure = words.next()?;
     let a = words.next()?;
@@ -56,7 +50,7 @@ pub(crate) fn note_of<'a>(book: BookName, mut words: Words) -> Option<Command<'a
 
 /// What follows `format`.
 pub(crate) fn format_of<'a>(mut words: Words) -> Option<Command<'a>>
-    ensures value { option_map asked_by result ≡ format_form words.entry }
+    ensures value { option_map command_value result ≡ format_form words.entry }
 {
     let house = words.next()?;
     let None = words.next() else { return None };
@@ -67,7 +61,7 @@ pub(crate) fn format_of<'a>(mut words: Words) -> Option<Command<'a>>
 
 /// What follows `attach`: nothing.
 pub(crate) fn attach_of<'a>(mut words: Words) -> Option<Command<'a>>
-    ensures value { option_map asked_by result ≡ attach_form words.entry }
+    ensures value { option_map command_value result ≡ attach_form words.entry }
 {
     words
         .next()
@@ -77,7 +71,7 @@ pub(crate) fn attach_of<'a>(mut words: Words) -> Option<Command<'a>>
 
 /// What follows `enter`.
 pub(crate) fn enter_of<'a>(book: BookName, mut words: Words<'a>) -> Option<Command<'a>>
-    ensures value { option_map asked_by result ≡ enter_form book words.entry }
+    ensures value { option_map command_value result ≡ enter_form book words.entry }
 {
     let slip = words.next()?;
     let user = words.next()?;
@@ -97,7 +91,7 @@ pub(crate) fn enter_of<'a>(book: BookName, mut words: Words<'a>) -> Option<Comma
 
 /// What follows `countersign`.
 pub(crate) fn countersign_of<'a>(mut words: Words<'a>) -> Option<Command<'a>>
-    ensures value { option_map asked_by result ≡ countersign_form words.entry }
+    ensures value { option_map command_value result ≡ countersign_form words.entry }
 {
     let slip = words.next()?;
     let user = words.next()?;
@@ -112,7 +106,7 @@ pub(crate) fn countersign_of<'a>(mut words: Words<'a>) -> Option<Command<'a>>
 
 /// What follows `withdraw`.
 pub(crate) fn withdraw_of<'a>(mut words: Words<'a>) -> Option<Command<'a>>
-    ensures value { option_map asked_by result ≡ withdraw_form words.entry }
+    ensures value { option_map command_value result ≡ withdraw_form words.entry }
 {
     let slip = words.next()?;
     words.next().is_none().then_some(Command::Withdraw { slip })
@@ -140,7 +134,7 @@ fn typed_row(
 
 /// What follows `certify`.
 pub(crate) fn certify_of<'a>(book: BookName, mut words: Words<'a>) -> Option<Command<'a>>
-    ensures value { option_map asked_by result ≡ certify_form book words.entry }
+    ensures value { option_map command_value result ≡ certify_form book words.entry }
 {
     let word = words.next()?;
     let row = words.next()?;
@@ -155,7 +149,7 @@ pub(crate) fn certify_of<'a>(book: BookName, mut words: Words<'a>) -> Option<Com
 
 /// What follows `strike`.
 pub(crate) fn strike_of<'a>(mut words: Words<'a>) -> Option<Command<'a>>
-    ensures value { option_map asked_by result ≡ strike_form words.entry }
+    ensures value { option_map command_value result ≡ strike_form words.entry }
 {
     let word = words.next()?;
     let row = words.next()?;
@@ -168,7 +162,7 @@ pub(crate) fn strike_of<'a>(mut words: Words<'a>) -> Option<Command<'a>>
 
 /// What follows `item`.
 pub(crate) fn item_of<'a>(mut words: Words) -> Option<Command<'a>>
-    ensures value { option_map asked_by result ≡ item_form words.entry }
+    ensures value { option_map command_value result ≡ item_form words.entry }
 {
     let item = words.next()?;
     let None = words.next() else { return None };
@@ -179,7 +173,7 @@ pub(crate) fn item_of<'a>(mut words: Words) -> Option<Command<'a>>
 
 /// What follows `record`.
 pub(crate) fn record_of<'a>(mut words: Words) -> Option<Command<'a>>
-    ensures value { option_map asked_by result ≡ record_form words.entry }
+    ensures value { option_map command_value result ≡ record_form words.entry }
 {
     let number = words.next()?;
     let None = words.next() else { return None };

@@ -1,21 +1,24 @@
 ghost use Rattle.std.specs.Prelude.{◌≡◌, IfOk};
 ghost use Rattle.std.specs.Option.{option_map};
-ghost use Rattle.script.specs.Said.{asked_by, said_by as said_by_line};
-ghost use Rattle.script.specs.Grammar.{command, command_line, said, understood};
+ghost use Rattle.script.specs.LineValue.{command_value, line_value as said_by_line};
+ghost use Rattle.script.specs.Grammar.{command, command_line, line_said, understood};
 
+use crate::command::Command;
 use crate::forms::{
     attach_of, certify_of, countersign_of, enter_of, format_of, item_of, note_of, record_of,
     strike_of, withdraw_of,
 };
-use crate::line::{BookName, Command, Line};
+use crate::line::Line;
 use crate::setup_lines::{book_of, cuts_of, house_of, opening_of, roll_of};
 use lexer::{Words, is_text, without_comment};
+use registry::BookName;
 use std::alloc::{AllocError, Global};
 
 /// The command of this name, under the book that is chosen above it.
-// Not a `match` on the name: it would compare byte by byte, and the check does not put that many cases together.
+// Not a `match` on the name: it would compare byte by byte, and the check does not put that many
+// cases together.
 fn command_of<'a>(book: BookName, name: &[u8], words: Words<'a>) -> Option<Command<'a>>
-    ensures value { option_map asked_by result ≡ command book name.now words.entry }
+    ensures value { option_map command_value result ≡ command book name.now words.entry }
 {
     if name == b"note".as_slice() {
         note_of(book, words)
@@ -50,14 +53,15 @@ fn asks_by<'a>(book: Option<BookName>, name: &[u8], words: Words<'a>) -> Option<
     Some(Line::Asks(command_of(book?, name, words)?))
 }
 
-/// What a line says by its words, under the book that is chosen above it. It fails only for want of memory.
+/// What a line says by its words, under the book that is chosen above it. It fails only for want of
+/// memory.
 fn said_by<'a>(
     heap: Global,
     book: Option<BookName>,
     mut words: Words<'a>,
 ) -> Result<Option<Line<'a>>, AllocError>
     ensures value { IfOk result
-        (λ l. option_map said_by_line l ≡ said book words.entry) }
+        (λ l. option_map said_by_line l ≡ line_said book words.entry) }
 {
     match words.next() {
         None => Ok(Some(Line::Nothing)),
@@ -70,7 +74,13 @@ fn said_by<'a>(
     }
 }
 
-/// What a line says, under the book that is chosen above it; none where it is bad. It fails only for want of memory.
+/// What a line says, under the book that is chosen above it, or none where the line is bad. Bad are
+/// a byte that is neither printable ASCII nor a tab or carriage return, a first word that names
+/// no form, a word too many or too few, a word that is no number of 64 bits where one stands (of a
+/// cut: none of 16 bits), a procedure that is no number and no word of the book, and a command
+/// where no book is chosen. A comment, which begins at the first `#`, and a blank line say nothing.
+///
+/// It fails only for want of memory.
 pub fn understand<'a>(
     heap: Global,
     book: Option<BookName>,

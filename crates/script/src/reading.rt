@@ -1,5 +1,5 @@
 ghost use Rattle.std.specs.Prelude.{◌≡◌, IfOk};
-ghost use Rattle.script.specs.Reading.{script_reading, contents};
+ghost use Rattle.script.specs.Reading.{script_reading, script_value};
 
 use crate::grammar::understand;
 use crate::script::Script;
@@ -9,9 +9,14 @@ use std::alloc::{AllocError, Global};
 /// The longest script, in bytes.
 const LONGEST: usize = 65_536;
 
-/// Reads a script up to its first bad line. It fails only for want of memory.
+/// Reads a script, of any bytes, up to its first bad line: what it sets up, its commands with the
+/// numbers of their lines, from 1, and the number of the bad line, if there is one. Nothing is
+/// taken of the bad line and of those below it. A script of more than 65,536 bytes is bad at line
+/// 0.
+///
+/// It fails only for want of memory.
 pub fn read_script<'a>(heap: Global, text: &'a [u8]) -> Result<Script<'a>, AllocError>
-    ensures reads { IfOk result (λ s. contents s ≡ script_reading text.now) }
+    ensures reads { IfOk result (λ s. script_value s ≡ script_reading text.now) }
 {
     let mut script = Script::new(heap);
     if text.len() > LONGEST {

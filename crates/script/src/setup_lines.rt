@@ -1,15 +1,16 @@
 ghost use Rattle.std.specs.Prelude.{◌≡◌, IfOk};
 ghost use Rattle.std.specs.Option.{option_map};
-ghost use Rattle.script.specs.Said.{said_by};
+ghost use Rattle.script.specs.LineValue.{line_value};
 ghost use Rattle.script.specs.Grammar.{cut_typed as cut_by_word, book_line, house_line, roll_line, opening_line, cuts_line};
 
-use crate::line::{BookName, Line};
+use crate::line::Line;
 use lexer::{Words, typed_number};
+use registry::BookName;
 use std::alloc::{AllocError, Global};
 
 /// What follows `book`.
 pub(crate) fn book_of<'a>(mut words: Words) -> Option<Line<'a>>
-    ensures value { option_map said_by result ≡ book_line words.entry }
+    ensures value { option_map line_value result ≡ book_line words.entry }
 {
     let name = words.next()?;
     let None = words.next() else { return None };
@@ -18,7 +19,7 @@ pub(crate) fn book_of<'a>(mut words: Words) -> Option<Line<'a>>
 
 /// What follows `house`.
 pub(crate) fn house_of<'a>(mut words: Words) -> Option<Line<'a>>
-    ensures value { option_map said_by result ≡ house_line words.entry }
+    ensures value { option_map line_value result ≡ house_line words.entry }
 {
     let number = words.next()?;
     let None = words.next() else { return None };
@@ -27,7 +28,7 @@ pub(crate) fn house_of<'a>(mut words: Words) -> Option<Line<'a>>
 
 /// What follows `roll`. It fails only for want of memory.
 pub(crate) fn roll_of<'a>(heap: Global, words: Words) -> Result<Option<Line<'a>>, AllocError>
-    ensures value { IfOk result (λ l. option_map said_by l ≡ roll_line words.entry) }
+    ensures value { IfOk result (λ l. option_map line_value l ≡ roll_line words.entry) }
 {
     let mut roll = Vec::new(heap);
     for word in words {
@@ -39,7 +40,7 @@ pub(crate) fn roll_of<'a>(heap: Global, words: Words) -> Result<Option<Line<'a>>
 /// What follows `opening`. It fails only for want of memory.
 pub(crate) fn opening_of<'a>(heap: Global, words: Words) -> Result<Option<Line<'a>>, AllocError>
     ensures value { IfOk result
-        (λ l. option_map said_by l ≡ opening_line words.entry) }
+        (λ l. option_map line_value l ≡ opening_line words.entry) }
 {
     let mut codes = Vec::new(heap);
     for word in words {
@@ -60,7 +61,7 @@ fn cut_typed(word: &[u8]) -> Option<u16>
 
 /// What follows `cuts`. It fails only for want of memory.
 pub(crate) fn cuts_of<'a>(heap: Global, words: Words) -> Result<Option<Line<'a>>, AllocError>
-    ensures value { IfOk result (λ l. option_map said_by l ≡ cuts_line words.entry) }
+    ensures value { IfOk result (λ l. option_map line_value l ≡ cuts_line words.entry) }
 {
     let mut cuts = Vec::new(heap);
     for word in words {

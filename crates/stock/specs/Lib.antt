@@ -1,6 +1,6 @@
 pub mod Procedures
 pub mod Stock
 pub mod Shelf
-pub mod Numbered
-pub mod Stepping
-pub mod Keeping
+pub mod ProcedureNumbered
+pub mod StepTestsInOrder
+pub mod StepKeepsValid

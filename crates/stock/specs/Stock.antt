@@ -1,12 +1,13 @@
--- The stock book: for each shelf the reels held and the most that it takes. Item 0 holds the sums of items 1 to 63.
+-- The stock book: for each shelf the reels held and the most that it takes. Item 0 holds the sums
+-- of items 1 to 63.
 use Rattle.std.specs.Prelude.{ℕ, ◌+◌, ◌-◌, ◌*◌, ◌/◌, ◌%◌, ◌^◌, Bool, true, not, ◌&&◌, List, [], ◌∷◌, length, drop, Ok, Err, codes, sum_by, Result, ◌==◌, nat_le, nat_lt, slice_index, if◌then◌else◌}
 use Rattle.std.specs.List.{list_all}
-use Rattle.refusals.specs.declared.step_place.StepPlace.{StepPlace}
-use Rattle.refusals.specs.declared.step_place.StepPlace.TheVariants.{Items, Amount, Values}
+use Rattle.refusals.specs.declared.places.StepPlace.{StepPlace}
+use Rattle.refusals.specs.declared.places.StepPlace.TheVariants.{Items, Amount, Values}
 use Rattle.books.specs.declared.draft.Draft.{Draft}
 use Rattle.books.specs.Meaning.{Meaning, amount_ok}
-use Rattle.stock.specs.Procedures.{number, is_procedure}
-use Rattle.stock.specs.declared.Procedure.TheVariants.{Build, Take, Give}
+use Rattle.stock.specs.Procedures.{procedure_number, is_procedure}
+use Rattle.stock.specs.declared.procedure.Procedure.TheVariants.{Build, Take, Give}
 
 -- the reels held: the low 32 bits of a code
 abbrev pub held : ℕ → ℕ
@@ -28,7 +29,8 @@ shelf_ok h m = nat_le h m && nat_le m 10000
 abbrev pub in_order : ℕ → Bool
 in_order c = shelf_ok (held c) (most c)
 
--- 64 codes; each of items 1 to 63 holds no more than its most, which is at most 10,000; item 0 has the two sums
+-- 64 codes; each of items 1 to 63 holds no more than its most, which is at most 10,000; item 0 has
+-- the two sums
 abbrev pub stock_valid : List ℕ → Bool
 stock_valid cs =
     (length cs == 64)
@@ -43,17 +45,17 @@ stock_takes d = is_procedure d.procedure && ((nat_le 1 d.a && nat_le d.a 63) && 
 -- build adds to the most, take to the held, give takes from the held
 abbrev pub held_after : ℕ → ℕ → ℕ → ℕ
 held_after p h n =
-    if p == number Take then h + n
-    else if p == number Give then h - n
+    if p == procedure_number Take then h + n
+    else if p == procedure_number Give then h - n
     else h
 
 abbrev pub most_after : ℕ → ℕ → ℕ → ℕ
-most_after p m n = if p == number Build then m + n else m
+most_after p m n = if p == procedure_number Build then m + n else m
 
 -- no half leaves 0 to 4,294,967,295
 abbrev pub halves_stay : ℕ → ℕ → ℕ → ℕ → Bool
 halves_stay p h m n =
-    (if p == number Give then nat_le n h else true)
+    (if p == procedure_number Give then nat_le n h else true)
     && (nat_lt (held_after p h n) (2 ^ 32) && nat_lt (most_after p m n) (2 ^ 32))
 
 -- a code keeps its halves

@@ -1,7 +1,7 @@
 // Damage: one byte of an image changed, and judged.
 use books::Book;
+use image::inspect;
 use journals::Journal;
-use judging::inspect;
 use trial::TrialDrive;
 
 /// How many images were still lawful, and how many were refused by each number.

@@ -1,8 +1,8 @@
-// A day, kept with one cut number: what stood at its end, compared with the tally.
-use crate::tally::{Tally, Tray};
+// A day, run with its cut numbers: what stood at its end, compared with the tally.
+use crate::tally::Tally;
 use books::Book;
 use calls::Plain;
-use day::{Expected, Plan, keep_day, plan_day};
+use day::{Expected, Plan, plan_day, run_day};
 use desk::{Request, Told};
 use records::Record;
 use refusals::Reason;
@@ -30,7 +30,8 @@ pub struct End {
     pub stood: Stood,
 }
 
-/// The place at which power was lost in a call, if it was; 0 is no loss, but a call of a dark monitor.
+/// The place at which power was lost in a call, if it was; 0 is no loss, but a call of a dark
+/// monitor.
 fn place_lost(answer: &Told) -> Option<u64> {
     match answer {
         Told::Count(Err(refusal)) if refusal.reason == Reason::PowerLost && refusal.place != 0 => {
@@ -51,7 +52,7 @@ fn and_looks(mut requests: Vec<Request<'_>>) -> Result<Vec<Request<'_>>, AllocEr
 }
 
 /// What a script sets up, with other cut numbers.
-pub(crate) fn setup_with(heap: Global, setup: &Setup, cuts: &[u16]) -> Result<Setup, AllocError> {
+fn setup_with(heap: Global, setup: &Setup, cuts: &[u16]) -> Result<Setup, AllocError> {
     let mut others = Vec::with_capacity(heap, cuts.len())?;
     others.extend_from_slice(cuts)?;
     Ok(Setup {
@@ -68,7 +69,7 @@ fn agrees(tally: &Tally, items: &[Told], audit: &[Told]) -> bool {
     let items_agree = items.len() == 64
         && items
             .iter()
-            .zip(&tally.held.items)
+            .zip(&tally.state.items)
             .all(|(answer, code)| *answer == Told::Code(Ok(*code)));
     let records_agree = audit
         .iter()
@@ -82,18 +83,17 @@ fn agrees(tally: &Tally, items: &[Told], audit: &[Told]) -> bool {
 }
 
 /// The tally of a day's commands and answers, and the answers after them.
-fn tally_of<'t, 'a, B: Book>(
+fn tally_of<'a, B: Book>(
     heap: Global,
     book: &B,
-    script: &Script<'t>,
+    script: &'a Script<'a>,
     expected: &[Expected],
     answers: &'a [Told],
-) -> Result<(Tally, &'a [Told]), AllocError> {
-    let opening = script.setup.opening.as_slice();
-    let mut tally = Tally::opened(heap, opening);
-    let mut tray = Tray::new(heap);
+) -> Result<(Tally<'a>, &'a [Told]), AllocError> {
+    let mut tally = Tally::opened(heap, script.setup.opening.as_slice());
     let mut left = answers;
-    // The first answer is the attach's; the format's and its own are the first two that are expected.
+    // The first answer is the attach's; the format's and its own are the first two that are
+    // expected.
     if let Some((attached, later)) = left.split_first() {
         tally.attach(book, *attached)?;
         left = later;
@@ -105,7 +105,7 @@ fn tally_of<'t, 'a, B: Book>(
         let Some((answer, later)) = left.split_first() else {
             break;
         };
-        tally.feed(heap, book, opening, &mut tray, numbered.command, *answer)?;
+        tally.feed(book, numbered.command, *answer)?;
         left = later;
     }
     for _ in 0..2 {
@@ -117,8 +117,8 @@ fn tally_of<'t, 'a, B: Book>(
     Ok((tally, left))
 }
 
-/// Keeps the day of a script on a fresh drive over some bytes, with its setup, or one that has other cut numbers.
-pub(crate) fn keep_cut<'a, B: Book + Drop + Copy>(
+/// Runs the day of a script with a setup, and compares what stands at its end with the tally.
+fn run_set_up<'a, B: Book + Copy + Drop>(
     heap: Global,
     book: B,
     script: &'a Script<'a>,
@@ -126,7 +126,7 @@ pub(crate) fn keep_cut<'a, B: Book + Drop + Copy>(
     bytes: &'a mut [u8],
 ) -> Result<End, AllocError> {
     let Plan { requests, expected } = plan_day(heap, setup, script.commands.as_slice())?;
-    let (_, day) = keep_day(heap, book, bytes, setup, and_looks(requests)?);
+    let (_, day) = run_day(heap, book, bytes, setup, and_looks(requests)?);
     let day = day?;
     let answers = day.told.as_slice();
     let (tally, items) = tally_of(heap, &book, script, expected.as_slice(), answers)?;
@@ -142,4 +142,18 @@ pub(crate) fn keep_cut<'a, B: Book + Drop + Copy>(
         in_start: answers.iter().any(|answer| place_lost(answer) == Some(4)),
         stood,
     })
+}
+
+/// Runs the day of a script on a new drive over some bytes: its power calls take these cut numbers,
+/// in their order.
+pub(crate) fn run_cut<B: Book + Copy + Drop>(
+    heap: Global,
+    book: B,
+    script: &Script,
+    bytes: &mut [u8],
+    cuts: &[u16],
+) -> Result<End, AllocError> {
+    bytes.fill(0);
+    let setup = setup_with(heap, &script.setup, cuts)?;
+    run_set_up(heap, book, &*script, &setup, bytes)
 }

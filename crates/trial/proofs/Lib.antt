@@ -1,3 +1,3 @@
-mod Blocks
-mod Alone
-mod Kept
+mod BlocksOfBytes
+mod SettledBlocks
+mod WritesKeepMeaning

@@ -10,10 +10,13 @@ use Rattle.trial.specs.Bytes.{blocks_of, in_blocks}
 abbrev pub block : List ℕ → ℕ → List ℕ
 block bs k = take 64 (drop (64 * k) bs)
 
-joined : (n i : ℕ) (bs : List ℕ) → concat (map (block bs) (range_with_len i n)) ≡ take (64 * n) (drop (64 * i) bs)
+joined :
+    (n i : ℕ) (bs : List ℕ)
+    → concat (map (block bs) (range_with_len i n)) ≡ take (64 * n) (drop (64 * i) bs)
 joined zero i bs = refl
 joined (suc n) i bs =
-    let next : drop (64 * (i + 1)) bs ≡ drop 64 (drop (64 * i) bs) = ap (λ z. drop z bs) {y = 64 * i + 64} (omega arith) ∙ sym (drop-drop 64 (64 * i) bs) in
+    let next : drop (64 * (i + 1)) bs ≡ drop 64 (drop (64 * i) bs) =
+    ap (λ z. drop z bs) {y = 64 * i + 64} (omega arith) ∙ sym (drop-drop 64 (64 * i) bs) in
     ap (λ z. block bs i ++ z) (joined n (i + 1) bs ∙ ap (take (64 * n)) next)
     ∙ sym (take-add 64 (64 * n) (drop (64 * i) bs))
     ∙ ap (λ z. take z (drop (64 * i) bs)) {x = 64 + 64 * n} (omega arith)
@@ -32,15 +35,20 @@ same_block bs n k m e =
       shorter : (xs : List ℕ) → take 64 (take (64 + 64 * m) xs) ≡ take 64 xs
       shorter xs = take-take 64 (64 + 64 * m) xs (omega arith)
 
-same_blocks : (bs : List ℕ) (n i k : ℕ) → i + k ≡ n → map (block (take (64 * n) bs)) (range_with_len i k) ≡ map (block bs) (range_with_len i k)
+same_blocks :
+    (bs : List ℕ) (n i k : ℕ) → i + k ≡ n
+    → map (block (take (64 * n) bs)) (range_with_len i k) ≡ map (block bs) (range_with_len i k)
 same_blocks bs n i zero e = refl
 same_blocks bs n i (suc k) e =
-    ap (λ z. z ∷ map (block (take (64 * n) bs)) (range_with_len (i + 1) k)) (same_block bs n i k e)
+    ap (λ z. z ∷ map (block (take (64 * n) bs)) (range_with_len (i + 1) k))
+    (same_block bs n i k e)
     ∙ ap (λ z. block bs i ∷ z) (same_blocks bs n (i + 1) k (omega (arith, e)))
 
 pub blocks_alone : (bs : List ℕ) → blocks_of (in_blocks bs) ≡ blocks_of bs
 unfolding blocks_of
 blocks_alone bs =
     let q : ℕ = length bs / 64 in
-    let long : length (in_blocks bs) / 64 ≡ q = ap (λ z. z / 64) (length-take-le (64 * q) bs (omega arith)) ∙ omega arith in
-    ap (λ z. map (block (in_blocks bs)) (range_with_len 0 z)) long ∙ same_blocks bs q 0 q (omega arith)
+    let long : length (in_blocks bs) / 64 ≡ q =
+    ap (λ z. z / 64) (length-take-le (64 * q) bs (omega arith)) ∙ omega arith in
+    ap (λ z. map (block (in_blocks bs)) (range_with_len 0 z)) long
+    ∙ same_blocks bs q 0 q (omega arith)

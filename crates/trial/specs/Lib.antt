@@ -1,4 +1,4 @@
 pub mod Bytes
 pub mod Schedule
-pub mod State
+pub mod TrialState
 pub mod Laws

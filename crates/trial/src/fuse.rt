@@ -6,21 +6,13 @@ ghost use Rattle.std.specs.Prelude.{◌≡◌};
 pub enum Fuse {
     /// Not any more.
     Never,
-    /// After so many writes and flushes that are done; then a write lands or not.
+    /// After so many writes and flushes that are done, in the next one. If that is a write, it
+    /// lands or not.
     After { left: u16, lands: bool },
 }
 
-// No `Result`: the write that loses power may land all the same.
-/// How a write or a flush goes.
-#[derive(Clone, Copy, PartialEq, Eq, Debug)]
-pub enum Turn {
-    /// It is done.
-    Done,
-    /// It loses power; a write lands or not.
-    Lost { lands: bool },
-}
-
-/// The fuse that a cut number sets.
+/// The fuse that a cut number sets. The number modulo 32,768 is how many writes and flushes are
+/// done before the one that loses power; if that is a write, it lands exactly from 32,768 on.
 impl From<u16> for Fuse {
     ghost use Rattle.trial.specs.Schedule.{fuse_of};
 

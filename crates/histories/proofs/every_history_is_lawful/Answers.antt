@@ -1,4 +1,4 @@
-use Rattle.histories.proofs.Histories.{law_holds}
+use Rattle.histories.proofs.LawHolds.{law_holds}
 use Rattle.histories.proofs.every_history_is_lawful.Goals as goal
 
 pub returns : goal.returns

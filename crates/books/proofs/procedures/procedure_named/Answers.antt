@@ -3,7 +3,7 @@ use Rattle.std.proofs.lemmas.Iterator.Adapters.{option_map_id}
 use Rattle.std.proofs.lemmas.Iterator.{YieldsList-from_range}
 use Rattle.std.proofs.lemmas.Iterator.Search.{find_from_yields_List}
 use Rattle.books.specs.Words.{word_of, is_word}
-use Rattle.books.proofs.Naming.{find_named}
+use Rattle.books.proofs.FirstOfWord.{find_named}
 use Rattle.books.proofs.procedures.procedure_named.Goals as goal
 
 pub returns : goal.returns

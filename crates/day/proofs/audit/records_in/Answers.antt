@@ -5,7 +5,7 @@ use Rattle.std.specs.Vec.{vec_items}
 use Rattle.records.specs.declared.record.Record.{Record}
 use Rattle.desk.specs.declared.told.Told.{Told}
 use Rattle.desk.specs.declared.told.Told.TheVariants.{Count}
-use Rattle.day.specs.Running.{record_seen, records_seen}
+use Rattle.day.specs.Outcome.{record_seen, records_seen}
 use Rattle.day.proofs.audit.records_in.Goals as goal
 use Rattle.day.proofs.audit.records_in.Goals.{in-Some+in_ok-push, in_default}
 

@@ -1,5 +1,5 @@
 use Rattle.std.proofs.Common.{◌≡◌, take, vec_items}
-use Rattle.day.specs.Running.{records_seen}
+use Rattle.day.specs.Outcome.{records_seen}
 use Rattle.day.proofs.audit.records_in.Given as goal
 
 -- the records of the answers so far

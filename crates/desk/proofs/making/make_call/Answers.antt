@@ -1,4 +1,4 @@
-use Rattle.desk.proofs.Moving.{extended}
+use Rattle.desk.proofs.ServesAsDefined.{extended}
 use Rattle.desk.proofs.making.make_call.Goals as goal
 
 -- the call extends whatever history led to the monitor

@@ -1,17 +1,17 @@
 use Rattle.std.proofs.Common.{◌≡◌, ◌+◌, ◌++◌, [], ◌∷◌, length, sym, ap, ◌∙◌, arith, rules}
 use Rattle.std.proofs.lemmas.List.{length-append, append_assoc}
 use Rattle.std.specs.Vec.Iter.{into_iter_items}
-use Rattle.monitor.specs.Machine.{Machine}
+use Rattle.monitor.specs.MonitorState.{MonitorState}
 use Rattle.books.specs.Meaning.{Meaning}
-use Rattle.desk.specs.Serving.{tickets_of, opened_with}
-use Rattle.desk.proofs.Sessions.{begins, goes_on, served, one_more, none_left}
+use Rattle.desk.specs.Serving.{waiting_values, opened_with}
+use Rattle.desk.proofs.SessionExtends.{begins, goes_on, served, one_more, none_left}
 use Rattle.desk.proofs.serving.serve.Goals as goal
 
 -- no call was made, and there is room for all
 pub loop-request-init : goal.loop-request-init
 loop-request-init g c =
     let m : Meaning = g.B.Book.meaning in
-    let s : Machine = c.args.monitor.now in (
+    let s : MonitorState = c.args.monitor.now in (
       tt,
       tt,
       c.into_iter-request-iterator.ensures.into_iter_gives.0,
@@ -20,7 +20,7 @@ loop-request-init g c =
       c.in_ok-told.ensures.len,
       search rules,
       search rules,
-      ([], begins m (opened_with s) _ _ c.in_ok-told.ensures.items (ap tickets_of c.in_ok-tray.ensures.items)),
+      ([], begins m (opened_with s) _ _ c.in_ok-told.ensures.items (ap waiting_values c.in_ok-tray.ensures.items)),
     )
 
 pub answer-requires : goal.answer-requires
@@ -37,9 +37,9 @@ push_reserved-requires g c =
 pub loop-request-preserved : goal.loop-request-preserved
 loop-request-preserved g c =
     let m : Meaning = g.B.Book.meaning in
-    let s0 : Machine = c.args.monitor.now in
-    let s : Machine = c.loop-request.monitor in
-    let t : Machine = c.answer.new.monitor in
+    let s0 : MonitorState = c.args.monitor.now in
+    let s : MonitorState = c.loop-request.monitor in
+    let t : MonitorState = c.answer.new.monitor in
     let (a, b, all, left, few, told, room, places, past) = c.loop-request.invariant in
     let ys = c.loop-request.yielded in
     let x = c.in-Some.request in
@@ -59,8 +59,8 @@ loop-request-preserved g c =
 pub returns-clause-served : goal.returns-clause-served
 returns-clause-served g c =
     let m : Meaning = g.B.Book.meaning in
-    let s : Machine = c.args.monitor.now in
-    let t : Machine = c.loop-request.monitor in
+    let s : MonitorState = c.args.monitor.now in
+    let t : MonitorState = c.loop-request.monitor in
     let (a, b, all, left, few, told, room, places, past) = c.loop-request.invariant in
     let full : length c.loop-request.yielded ≡ length c.args.requests.items = omega (arith, left, c.in-None.ensures.steps.0) in
     served c.every_history_is_lawful.ensures.holds m g.met.B.Book.step_tests g.met.B.Book.step_gives_codes s t c.loop-request.yielded c.args.requests.items _ _ _ all (none_left _ _ _ all full) past

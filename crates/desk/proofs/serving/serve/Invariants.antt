@@ -1,7 +1,7 @@
 use Rattle.std.proofs.Common.{◌≡◌, ◌+◌, ◌≤◌, ◌++◌, List, map, length, vec_len, vec_capacity}
 use Rattle.std.specs.Vec.Iter.{into_iter_items, into_iter_len}
 use Rattle.histories.specs.Events.{Event}
-use Rattle.desk.specs.Serving.{requested, tickets_of, opened_with, Session}
+use Rattle.desk.specs.Serving.{request_value, waiting_values, opened_with, Session}
 use Rattle.desk.proofs.serving.serve.Given as goal
 
 -- the calls so far were made, and there is room for the rest
@@ -15,4 +15,4 @@ invariant-loop-request g l =
     × (vec_len l.told ≡ length l.yielded)
     × (length l.fn.requests.items ≤ vec_capacity l.tray)
     × (length l.fn.requests.items ≤ vec_capacity l.told)
-    × ((es : List Event) × Session g.B.Book.meaning (opened_with l.fn.monitor) (map requested l.yielded) l.told.items (record { machine = l.monitor; tray = tickets_of l.tray.items; happened = es }))
+    × ((es : List Event) × Session g.B.Book.meaning (opened_with l.fn.monitor) (map request_value l.yielded) l.told.items (record { monitor = l.monitor; tray = waiting_values l.tray.items; happened = es }))

@@ -2,7 +2,7 @@ use Rattle.std.proofs.Common.{◌+◌, None, Some, ap, ◌∙◌, rules, tests}
 use Rattle.std.proofs.lemmas.Iterator.{YieldsList-from_slice, YieldsList-from_zip}
 use Rattle.std.proofs.lemmas.Iterator.Search.{position_from_yields_List}
 use Rattle.image.specs.Layout.{first_block}
-use Rattle.image.proofs.Differing.{apart, differing_found}
+use Rattle.image.proofs.FirstDiffering.{apart, differing_found}
 use Rattle.image.proofs.parts.first_differing.Goals as goal
 
 -- no block differs

@@ -1,5 +1,5 @@
 use Rattle.std.proofs.Common.{rules}
-use Rattle.journals.proofs.Writing.{stores}
+use Rattle.journals.proofs.WriteOneMore.{stores}
 use Rattle.journals.proofs.steps.stage.Goals as goal
 
 pub returns : goal.returns

@@ -1,6 +1,6 @@
 use Rattle.std.proofs.Common.{arith}
 use Rattle.std.proofs.lemmas.Grind.{common_steps}
-use Rattle.lexer.proofs.Values.{value_drop_least}
+use Rattle.lexer.proofs.DigitValues.{value_drop_least}
 use Rattle.lexer.proofs.numerals.number_in.Goals as goal
 
 -- what no longer fits does not fit with more digits behind it

@@ -3,7 +3,7 @@ use Rattle.std.proofs.Common.{◌≡◌, ◌^◌, ◌<◌, drop}
 use Rattle.std.specs.Char.{is_digit}
 use Rattle.std.specs.List.{list_all}
 use Rattle.lexer.specs.Numerals.{value}
-use Rattle.lexer.proofs.Values.{value_after}
+use Rattle.lexer.proofs.DigitValues.{value_after}
 use Rattle.lexer.proofs.numerals.number_in.Given as goal
 
 abbrev pub invariant-loop-byte : goal.invariant-loop-byte

@@ -3,7 +3,7 @@ use Rattle.std.specs.Str.{bytes_eq}
 use Rattle.std.specs.Option.{option_and_then}
 use Rattle.records.specs.Form.{encoded, if_form, decoded}
 use Rattle.records.specs.Laws.{decodes}
-use Rattle.records.proofs.Filtered.{kept}
+use Rattle.records.proofs.FilterKeeps.{kept}
 use Rattle.records.proofs.codec.decode.Goals as goal
 
 pub returns : goal.returns

@@ -1,7 +1,7 @@
 use Rattle.std.proofs.Common.{◌≡◌, length, ap, refl, arith}
 use Rattle.lexer.specs.Pieces.{newline, lines}
 use Rattle.std.specs.Iterator.Adapters.{zip_first, zip_second}
-use Rattle.script.proofs.Onward.{pieces_few}
+use Rattle.script.proofs.RangeGoesOn.{pieces_few}
 use Rattle.script.proofs.reading.read_script.Goals as goal
 
 pub loop-number-init : goal.loop-number-init

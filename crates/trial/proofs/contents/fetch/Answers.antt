@@ -1,6 +1,6 @@
 use Rattle.std.proofs.Common.{arith}
 use Rattle.std.proofs.lemmas.Grind.{common_steps}
-use Rattle.trial.proofs.Blocks.{block_at}
+use Rattle.trial.proofs.BlocksOfBytes.{block_at}
 use Rattle.trial.proofs.contents.fetch.Goals as goal
 
 pub returns : goal.returns

@@ -1,7 +1,7 @@
 use Rattle.std.proofs.Common.{rules, ◌≡◌, ◌<◌, length, ap, arith}
-use Rattle.changes.specs.declared.change.Home.{Home}
+use Rattle.changes.specs.declared.home.Home.{Home}
 use Rattle.changes.specs.Homes.{last}
-use Rattle.changes.specs.Laws.Changes.{one_more}
+use Rattle.changes.specs.Laws.Changes.{IsChange-push}
 use Rattle.changes.proofs.change.Change.add.Goals as goal
 
 pub invariant_of-self : goal.invariant_of-self
@@ -11,4 +11,4 @@ invariant_of-self c =
     let same : h.number ≡ c.args.block = search rules in
     let room : length hs < 6 = search rules in
     let above : last hs < h.number = omega (arith, c.last.ensures.value, ap last c.self.view_is, c.if-block-last.false, same) in
-    rw c.push.ensures.items (one_more hs c.self.invariant h room above (search rules))
+    rw c.push.ensures.items (IsChange-push hs c.self.invariant h room above (search rules))

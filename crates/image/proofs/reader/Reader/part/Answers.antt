@@ -1,6 +1,6 @@
 use Rattle.std.proofs.Common.{ℕ, List, [], sym, ap, ◌∙◌, arith}
 use Rattle.std.proofs.lemmas.List.{ext_get_or}
-use Rattle.journals.specs.State.{home_of}
+use Rattle.journals.specs.JournalState.{home_of}
 use Rattle.image.specs.Home.{blocks_at}
 use Rattle.image.specs.Laws.Places.{block_of, length-blocks}
 use Rattle.image.proofs.reader.Reader.part.Goals as goal

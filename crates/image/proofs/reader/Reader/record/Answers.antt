@@ -1,5 +1,5 @@
 use Rattle.std.proofs.Common.{ap, arith}
-use Rattle.journals.specs.State.{size}
+use Rattle.journals.specs.JournalState.{size}
 use Rattle.image.specs.Laws.{size_low}
 use Rattle.image.proofs.reader.Reader.record.Goals as goal
 

@@ -1,17 +1,17 @@
 use Rattle.std.proofs.Common.{rules, ◌≡◌, Err, Result, sym, refl, ◌∙◌, arith}
 use Rattle.std.proofs.lemmas.Bool.{both_ways}
 use Rattle.changes.specs.Laws.{change_wide, change_reads_back}
-use Rattle.journals.specs.declared.journal.ChangeFault.{ChangeFault}
-use Rattle.journals.specs.declared.journal.ChangeFault.TheVariants as fault
+use Rattle.journals.specs.declared.faults.ChangeFault.{ChangeFault}
+use Rattle.journals.specs.declared.faults.ChangeFault.TheVariants as fault
 use Rattle.journals.specs.Steps.{StepsDone, StepsCut}
-use Rattle.journals.proofs.Whole.{change_made, change_cut}
+use Rattle.journals.proofs.ChangeIsAtomic.{change_made, change_cut}
 use Rattle.journals.proofs.journal.Journal.change.Goals as goal
 
 pub returns : goal.returns
 returns g c =
     let hs = c.args.change.now in
-    let change = c.in_ok-make.ensures.change in
-    let steps : StepsDone hs c.args.self.now (g.D.Drive.disk c.make.new.drive) = rw (← c.self.view_is) c.in_ok-make.ensures.steps in
+    let change = c.in_ok-make_steps.ensures.change in
+    let steps : StepsDone hs c.args.self.now (g.D.Drive.disk c.make_steps.new.drive) = rw (← c.self.view_is) c.in_ok-make_steps.ensures.steps in
     record {
       changes = record {
         refused_off = λ e. absurd (both_ways _ e (sym c.is_on.ensures.value ∙ c.if-not-is_on.false));
@@ -20,12 +20,12 @@ returns g c =
       };
     }
 
-pub returns-in_err-make : goal.returns-in_err-make
-returns-in_err-make g c =
+pub returns-in_err-make_steps : goal.returns-in_err-make_steps
+returns-in_err-make_steps g c =
     let hs = c.args.change.now in
-    let change = c.in_err-make.ensures.change in
-    let place = c.in_err-make.field-0.0 in
-    let steps : StepsCut hs c.args.self.now (g.D.Drive.disk c.make.new.drive) place = rw (← c.self.view_is) c.in_err-make.ensures.steps in
+    let change = c.in_err-make_steps.ensures.change in
+    let place = c.in_err-make_steps.field-0.0 in
+    let steps : StepsCut hs c.args.self.now (g.D.Drive.disk c.make_steps.new.drive) place = rw (← c.self.view_is) c.in_err-make_steps.ensures.steps in
     let is : ◌≡◌ {A = Result (Unit {0}) ChangeFault} c.from_residual.result (Err (fault.Cut place)) = search rules in
     record {
       changes = rw is (record {

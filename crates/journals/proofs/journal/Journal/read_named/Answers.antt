@@ -2,7 +2,7 @@ use Rattle.std.proofs.Common.{◌≡◌, ◌+◌, ◌∷◌, [], ◌++◌, map, 
 use Rattle.std.specs.List.{range_with_len}
 use Rattle.std.proofs.lemmas.List.FromFn.{map-range_with_len_more}
 use Rattle.changes.specs.Homes.{home_at}
-use Rattle.changes.specs.Commit.{number_of}
+use Rattle.changes.specs.CommitBlock.{number_of}
 use Rattle.journals.specs.Redo.{named_home, commit_block}
 use Rattle.journals.specs.Laws.{was_read}
 use Rattle.journals.proofs.journal.Journal.read_named.Goals as goal

@@ -1,5 +1,5 @@
-use Rattle.judging.specs.Laws.{accepted}
-use Rattle.monitor.proofs.Formatted.{accepted_steady}
+use Rattle.image.specs.Laws.Inspecting.{accepted}
+use Rattle.monitor.proofs.LeavesSteady.{accepted_steady}
 use Rattle.monitor.proofs.monitor.Monitor.attach.Goals as goal
 
 -- a lawful image was accepted

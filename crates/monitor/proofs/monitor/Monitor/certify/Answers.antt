@@ -1,39 +1,42 @@
-use Rattle.std.proofs.Common.{rules, refl, ap, ◌∙◌}
-use Rattle.std.proofs.lemmas.Result.{err_from_is_err_and}
+use Rattle.std.proofs.Common.{rules}
 use Rattle.records.specs.declared.record.Record.TheVariants.{Certification}
-use Rattle.carrying.specs.Rows.{certified}
-use Rattle.carrying.specs.Standing.{standing_of}
-use Rattle.monitor.specs.Calls.{certification}
-use Rattle.monitor.specs.Machine.{Machine}
-use Rattle.monitor.specs.Stages.{may_work}
-use Rattle.monitor.proofs.Made.{certifying_so_far, changes_made, changes_refused}
+use Rattle.applying.specs.BookState.{state_of}
+use Rattle.monitor.proofs.RecordApplied.{certify_made, certify_refused}
+use Rattle.monitor.proofs.TestsPassed.{exit_is}
 use Rattle.monitor.proofs.monitor.Monitor.certify.Goals as goal
 
 -- it was refused
-pub returns-in_err-held : goal.returns-in_err-held
-returns-in_err-held g c =
-    let m = g.B.Book.meaning in
-    let s : Machine = c.args.self.now in
-    let p = err_from_is_err_and c.from_residual-in_err-held.result c.from_residual-in_err-held.ensures.1 in
-    let admits = c.in_ok-admit.ensures.value ∙ ap may_work c.stage.ensures.value in
-    let is = certifying_so_far m s c.args.word.now c.args.draft c.reader-reader.result c.reader-reader.ensures.value admits c.in_ok-identify.ensures.value in
+pub returns-in_err-state : goal.returns-in_err-state
+returns-in_err-state g c =
+    let s = c.args.self.now in
+    let e = c.in_err-state.field-0.0 in
+    let r = c.from_residual-in_err-state.result in
+    let is = exit_is r e c.from_residual-in_err-state.ensures.1 in
     record {
       certifies = record {
         fits = search rules;
-        changes = changes_refused s s _ _ (certification c.args.draft) (λ k b. certified m k b c.args.draft) is c.reader-reader.result c.head-head.result c.reader-reader.ensures.value c.head-head.ensures.value _ c.in_err-held.ensures.gives (rw (p.1, p.2) refl) refl;
+        changes =
+            certify_refused s c.in_ok-reader.reader c.in_ok-reader.ensures.open c.head-head.result
+            c.head-head.ensures.value r s g.B.Book.meaning c.args.word.now c.args.draft
+            c.in_ok-identify.ensures.value e c.in_err-state.ensures.gives is;
       };
     }
 
--- it was carried out
+-- it was applied
 pub returns : goal.returns
 returns g c =
-    let m = g.B.Book.meaning in
-    let s : Machine = c.args.self.now in
-    let admits = c.in_ok-admit.ensures.value ∙ ap may_work c.stage.ensures.value in
-    let is = certifying_so_far m s c.args.word.now c.args.draft c.reader-reader.result c.reader-reader.ensures.value admits c.in_ok-identify.ensures.value in
+    let s = c.args.self.now in
+    let r = c.make_update.result in
+    let t = c.make_update.new.self in
+    let a = state_of c.in_ok-state.state in
     record {
       certifies = record {
         fits = search rules;
-        changes = changes_made s c.make.new.self c.make.result _ (certification c.args.draft) (λ k b. certified m k b c.args.draft) is c.reader-reader.result c.head-head.result c.reader-reader.ensures.value c.head-head.ensures.value (Certification c.certification_of.result) (standing_of c.in_ok-held.held) c.in_ok-held.ensures.gives c.certification_of.ensures.value c.make.ensures.makes;
+        changes =
+            certify_made s c.in_ok-reader.reader c.in_ok-reader.ensures.open c.head-head.result
+            c.head-head.ensures.value r t g.B.Book.meaning c.args.word.now c.args.draft
+            c.in_ok-identify.ensures.value a c.in_ok-state.ensures.gives
+            (Certification c.certification_of.result) c.certification_of.ensures.value
+            c.make_update.ensures.makes;
       };
     }

@@ -1,30 +1,29 @@
-use Rattle.std.proofs.Common.{refl, ap, ◌∙◌}
-use Rattle.std.proofs.lemmas.Result.{err_from_is_err_and}
-use Rattle.records.specs.declared.record.Record.TheVariants.{Strike}
-use Rattle.carrying.specs.Rows.{struck}
-use Rattle.carrying.specs.Standing.{standing_of}
-use Rattle.monitor.specs.Machine.{Machine}
-use Rattle.monitor.specs.Stages.{may_work}
-use Rattle.monitor.proofs.Made.{striking_so_far, changes_made, changes_refused}
+use Rattle.applying.specs.BookState.{state_of}
+use Rattle.monitor.proofs.RecordApplied.{strike_made, strike_refused}
+use Rattle.monitor.proofs.TestsPassed.{exit_is}
 use Rattle.monitor.proofs.monitor.Monitor.strike.Goals as goal
 
 -- it was refused
-pub returns-in_err-held : goal.returns-in_err-held
-returns-in_err-held g c =
-    let s : Machine = c.args.self.now in
-    let p = err_from_is_err_and c.from_residual-in_err-held.result c.from_residual-in_err-held.ensures.1 in
-    let admits = c.in_ok-admit.ensures.value ∙ ap may_work c.stage.ensures.value in
-    let is = striking_so_far s c.args.word.now c.args.row c.reader-reader.result c.reader-reader.ensures.value admits c.in_ok-identify.ensures.value in
+pub returns-in_err-state : goal.returns-in_err-state
+returns-in_err-state g c =
+    let s = c.args.self.now in
+    let e = c.in_err-state.field-0.0 in
+    let r = c.from_residual-in_err-state.result in
+    let is = exit_is r e c.from_residual-in_err-state.ensures.1 in
     record {
-      strikes = changes_refused s s _ _ (Strike c.args.row) (λ k b. struck k b c.args.row) is c.reader-reader.result c.head-head.result c.reader-reader.ensures.value c.head-head.ensures.value _ c.in_err-held.ensures.gives (rw (p.1, p.2) refl) refl;
+      strikes =
+          strike_refused s c.in_ok-reader.reader c.in_ok-reader.ensures.open c.head-head.result
+          c.head-head.ensures.value r s c.args.word.now c.args.row c.in_ok-identify.ensures.value
+          e c.in_err-state.ensures.gives is;
     }
 
--- it was carried out
+-- it was applied
 pub returns : goal.returns
 returns g c =
-    let s : Machine = c.args.self.now in
-    let admits = c.in_ok-admit.ensures.value ∙ ap may_work c.stage.ensures.value in
-    let is = striking_so_far s c.args.word.now c.args.row c.reader-reader.result c.reader-reader.ensures.value admits c.in_ok-identify.ensures.value in
     record {
-      strikes = changes_made s c.make.new.self c.make.result _ (Strike c.args.row) (λ k b. struck k b c.args.row) is c.reader-reader.result c.head-head.result c.reader-reader.ensures.value c.head-head.ensures.value (Strike c.args.row) (standing_of c.in_ok-held.held) c.in_ok-held.ensures.gives refl c.make.ensures.makes;
+      strikes =
+          strike_made c.args.self.now c.in_ok-reader.reader c.in_ok-reader.ensures.open
+          c.head-head.result c.head-head.ensures.value c.make_update.result c.make_update.new.self
+          c.args.word.now c.args.row c.in_ok-identify.ensures.value (state_of c.in_ok-state.state)
+          c.in_ok-state.ensures.gives c.make_update.ensures.makes;
     }

@@ -1,0 +1,4 @@
+pub mod BookState
+pub mod Rows
+pub mod Applied
+pub mod Results

@@ -1,4 +1,0 @@
-pub mod Standing
-pub mod Rows
-pub mod Carried
-pub mod Results

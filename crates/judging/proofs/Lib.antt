@@ -1,3 +1,0 @@
-mod Looping
-mod Chaining
-mod Starting

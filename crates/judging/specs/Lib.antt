@@ -1,3 +1,0 @@
-pub mod Inspects
-pub mod Replaying
-pub mod Laws

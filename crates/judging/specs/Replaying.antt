@@ -1,8 +1,0 @@
--- What replaying records promises.
-use Rattle.std.specs.Prelude.{◌≡◌, Ok, Err, Result, MatchResult}
-use Rattle.refusals.specs.declared.refusal.Refusal.{Refusal}
-use Rattle.carrying.specs.Standing.{Standing}
-
--- it leaves what the definition gives, or refuses as the definition does
-abbrev pub Replays : Result Standing Refusal → Result (Unit {0}) Refusal → Standing → Type 0
-Replays given answer after = MatchResult answer (λ _. given ≡ Ok after) (λ e. given ≡ Err e)

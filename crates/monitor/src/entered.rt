@@ -1,9 +1,0 @@
-use notes::Numbers;
-
-/// The numbers of a slip: those of its note, who entered it, and at which house.
-#[derive(Clone, Copy, PartialEq, Eq, Debug)]
-pub struct Entered {
-    pub numbers: Numbers,
-    pub enterer: u8,
-    pub house: u32,
-}

@@ -1,0 +1,2 @@
+pub mod BookName
+pub mod TypedNote

@@ -1,0 +1,11 @@
+// The books that there are, by name. A book that people can choose is a crate of its own, as
+// `ledger`, and a case of the enum here.
+#![tactic(auto)]
+
+mod book_name;
+mod book_visitor;
+mod typed_note;
+
+pub use book_name::BookName;
+pub use book_visitor::BookVisitor;
+pub use typed_note::TypedNote;

@@ -1,7 +1,0 @@
-use Rattle.std.proofs.Common.{rules}
-use Rattle.trial.proofs.Blocks.{length_blocks}
-use Rattle.trial.proofs.drive.TrialDriveDrive.size.Goals as goal
-
--- The size is the number of whole blocks.
-pub returns-clause-value : goal.returns-clause-value
-returns-clause-value c = search (rules, length_blocks)

@@ -1,0 +1,7 @@
+use Rattle.std.proofs.Common.{rules}
+use Rattle.trial.proofs.BlocksOfBytes.{length_blocks}
+use Rattle.trial.proofs.trial_drive.TrialDriveDrive.size.Goals as goal
+
+-- The size is the number of whole blocks.
+pub returns-clause-value : goal.returns-clause-value
+returns-clause-value c = search (rules, length_blocks)
