@@ -1,12 +1,16 @@
-"""What the scripts share that make or check pages: wrapping, and writing a page or comparing it."""
+"""What the scripts share that make or check pages: which pages there are, filling lines, and writing
+a page or comparing it."""
 import difflib
 import pathlib
 import re
 import sys
-import textwrap
 
 ROOT = pathlib.Path(__file__).resolve().parent.parent
+PAGES = [ROOT / 'README.md'] + sorted((ROOT / 'docs').glob('*.md'))
 WIDTH = 100
+SPAN = re.compile(r'(?<!`)(`+)(?!`).*?(?<!`)\1(?!`)')
+# What would be read as the beginning of something else at the head of a line.
+MARK = re.compile(r'([-*+]|\d{1,9}[.)]|#{1,6})$|\||>|`{3}|~{3}|<!--|[-=]+$')
 
 
 def crate_names():
@@ -15,14 +19,36 @@ def crate_names():
     return re.findall(r'^(\w+)[^:#\n]*:', text, re.M)
 
 
-def wrapped(text, first='', rest=''):
-    """A text in lines of at most 100 columns: one that begins with `first`, others with `rest`. What
-    stands between backticks is not broken."""
-    glued = re.sub(r'`[^`\n]{,80}`', lambda span: span.group(0).replace(' ', '\0'), text)
-    lines = textwrap.wrap(
-        glued, WIDTH, initial_indent=first, subsequent_indent=rest,
-        break_long_words=False, break_on_hyphens=False)
-    return [line.replace('\0', ' ') for line in lines]
+def words(text):
+    """The words of a text. A code span is part of one word, with the blanks in it."""
+    joined = SPAN.sub(lambda span: span.group(0).replace(' ', '\0'), text)
+    return [word.replace('\0', ' ') for word in joined.split()]
+
+
+def glued(parts):
+    """The same, with a word that may not begin a line behind the one before it."""
+    out = []
+    for part in parts:
+        if out and MARK.match(part):
+            out[-1] += ' ' + part
+        else:
+            out.append(part)
+    return out
+
+
+def filled(text, first='', rest=''):
+    """A text in lines of at most 100 columns, where its words fit: one that begins with `first`, and
+    others with `rest`. What stands between backticks is not broken, if it fits on a line."""
+    lines, line, empty = [], first, True
+    for word in glued(words(text)):
+        pieces = [word] if len(rest) + len(word) <= WIDTH else word.split(' ')
+        for piece in pieces:
+            if not empty and len(line) + 1 + len(piece) > WIDTH and not MARK.match(piece):
+                lines.append(line)
+                line, empty = rest, True
+            line += piece if empty else ' ' + piece
+            empty = False
+    return lines + [line]
 
 
 def code_spans(text):
