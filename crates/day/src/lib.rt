@@ -17,7 +17,7 @@ mod table;
 pub use audit::Audit;
 pub use day::{Day, run_day};
 pub use left::Left;
-pub use outcome::{Outcome, run_script};
+pub use outcome::{DRIVE, Outcome, run_script};
 pub use plan::{Expected, Plan, plan_command, plan_day};
 pub use reply::Reply;
 pub use said::Said;

@@ -16,7 +16,7 @@ use script::{Script, Setup, read_script};
 use std::alloc::{AllocError, Global};
 
 /// The bytes of a rig's drive: 64 blocks.
-const DRIVE: usize = 4096;
+pub const DRIVE: usize = 4096;
 
 /// What a script came to.
 #[derive(Drop)]

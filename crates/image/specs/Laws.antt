@@ -1,13 +1,13 @@
 -- What the crates above prove with: laws of the image. Nothing here has to be believed.
-use Rattle.std.specs.Prelude.{◌≡◌, ℕ, ◌+◌, ◌/◌, ◌%◌, ◌<◌, ◌≤◌, true, List, [], length, Some, slice_index, slice_index_or}
+use Rattle.std.specs.Prelude.{◌≡◌, ℕ, ◌+◌, ◌<◌, ◌≤◌, true, List, [], length, Some, slice_index_or}
 use Rattle.std.proofs.lemmas.Bool.{and_parts, leb-true}
 use Rattle.records.specs.declared.record.Record.{Record}
 use Rattle.records.specs.Form.{decoded, Exact}
 use Rattle.layout.specs.Codes.{codes_of}
 use Rattle.layout.specs.Rows.{rows_of}
 use Rattle.journals.specs.Redo.{home_blocks}
-use Rattle.image.specs.Home.{block_at, blocks_at, items_on}
-use Rattle.image.specs.Layout.{item_block, lawful_size}
+use Rattle.image.specs.Home.{block_at, blocks_at}
+use Rattle.image.specs.Layout.{lawful_size}
 use Rattle.image.specs.Verdict.{AcceptsExactlyLawful}
 use Rattle.image.specs.Laws.Accepting as accepting
 use Rattle.image.specs.Laws.Places as places

@@ -1,6 +1,6 @@
 -- What the crates above prove with: readiness, what stands, a drive that is taken over, what was
 -- read, and what stands at home with a change.
-use Rattle.std.proofs.Common.{◌≡◌, ℕ, ◌-◌, ◌<◌, ◌≤◌, ◌⊎◌, List, [], length, get_or, sym, refl, ap, ◌∙◌, subst, inl, inr, Ok, Err, Result, arith}
+use Rattle.std.proofs.Common.{◌≡◌, ℕ, ◌-◌, ◌<◌, ◌≤◌, List, [], length, get_or, sym, refl, ap, ◌∙◌, inl, inr, Ok, arith}
 use Rattle.std.proofs.lemmas.List.{ext_get_or}
 use Rattle.std.proofs.lemmas.Bool.{cases_Bool, cases_lt}
 use Rattle.lists.specs.Answers.{not_ok, same_ok}
@@ -11,7 +11,7 @@ use Rattle.journals.specs.JournalState.{JournalState, size, present, home_of, Is
 use Rattle.journals.specs.Outcomes.{home_with, ReadsBlock}
 use Rattle.journals.specs.declared.faults.JournalFault.TheVariants.{Off, Beyond}
 use Rattle.journals.specs.Laws.ZeroCommit.{zero_is_lawful}
-use Rattle.journals.specs.Laws.Overlay as overlay
+use Rattle.journals.specs.Laws.Overlay as overlaying
 pub mod Overlay
 pub mod Missing
 pub mod ZeroCommit
@@ -42,7 +42,7 @@ module _ (d : JournalState) (r : Ready d) where
       (λ k h. r.settled.only k (get_or p k []) (omega (arith, c.same_size)) (c.each k h))
 
   leaves_home : home_blocks (finished d.blocks) ≡ home_of d
-  leaves_home = ap home_blocks (overlay.finished_nothing d.blocks (r.commit_zero 0))
+  leaves_home = ap home_blocks (overlaying.finished_nothing d.blocks (r.commit_zero 0))
 
   -- it can be finished
   pub ready_finishable : Finishable d
@@ -93,7 +93,7 @@ module _ (d e : JournalState) (t : TakenOver d e) where
 
 -- finishing leaves as many blocks as there were
 pub finished_length : (p : List (List ℕ)) → length (finished p) ≡ length p
-finished_length = overlay.finished_length
+finished_length = overlaying.finished_length
 
 -- what stands at home with a change
 module _ (homes : List Home) (d : JournalState) where
@@ -102,9 +102,9 @@ module _ (homes : List Home) (d : JournalState) where
   changed_length =
       omega (
         arith,
-        overlay.length-home (overlay homes d.blocks),
-        overlay.length-home d.blocks,
-        overlay.overlay_length homes d.blocks,
+        overlaying.length-home (overlay homes d.blocks),
+        overlaying.length-home d.blocks,
+        overlaying.overlay_length homes d.blocks,
       )
 
   -- a block of the change holds its content
@@ -113,15 +113,15 @@ module _ (homes : List Home) (d : JournalState) where
       → get_or (home_with homes d) (get_or (numbers homes) i 0 - 7) []
       ≡ get_or (contents homes) i []
   changed_at c i h l =
-      overlay.home_block (overlay homes d.blocks) (get_or (numbers homes) i 0) (c.low i h)
-      ∙ overlay.overlay_at homes d.blocks c.rise i h l
+      overlaying.home_block (overlay homes d.blocks) (get_or (numbers homes) i 0) (c.low i h)
+      ∙ overlaying.overlay_at homes d.blocks c.rise i h l
 
   -- any other block holds what it held
   pub changed_elsewhere :
       (k : ℕ) → 7 ≤ k → ((i : ℕ) → i < length homes → get_or (numbers homes) i 0 ≡ k → ⊥)
       → get_or (home_with homes d) (k - 7) [] ≡ get_or (home_of d) (k - 7) []
   changed_elsewhere k low f =
-      overlay.home_block (overlay homes d.blocks) k low
-      ∙ overlay.overlay_elsewhere homes d.blocks k
-      (λ w. (let m = overlay.names_at homes k w in f m.0 m.1 m.2))
-      ∙ sym (overlay.home_block d.blocks k low)
+      overlaying.home_block (overlay homes d.blocks) k low
+      ∙ overlaying.overlay_elsewhere homes d.blocks k
+      (λ w. (let m = overlaying.names_at homes k w in f m.0 m.1 m.2))
+      ∙ sym (overlaying.home_block d.blocks k low)

@@ -1,5 +1,4 @@
 ghost use Rattle.std.proofs.Common.{rules};
-ghost use Rattle.std.specs.Prelude.{◌≡◌};
 ghost use Rattle.books.specs.Meaning.{AmountTestIsCeiling};
 ghost use Rattle.ledger.specs.Ledger.{ledger, balance};
 ghost use Rattle.ledger.specs.StepKeepsValid.{ledger_has_64_codes, ledger_keeps};

@@ -2,7 +2,6 @@
 // earns.
 ghost use Rattle.std.specs.Prelude.{◌≡◌, ◌<◌, ◌≤◌, OnOk};
 ghost use Rattle.journals.specs.JournalState.{size, home_of};
-ghost use Rattle.records.specs.declared.record.Record.TheVariants.{};
 ghost use Rattle.records.specs.declared.record.Record.TheVariants as entry;
 ghost use Rattle.applying.specs.Applied.{posted as posted-on};
 ghost use Rattle.applying.specs.Results.{Gives};

@@ -1,6 +1,6 @@
 ghost use Rattle.std.specs.Prelude.{◌≡◌, IfOk};
 ghost use Rattle.std.specs.Option.{option_map};
-ghost use Rattle.script.specs.LineValue.{command_value, line_value as said_by_line};
+ghost use Rattle.script.specs.LineValue.{command_value, line_value};
 ghost use Rattle.script.specs.Grammar.{command, command_line, line_said, understood};
 
 use crate::command::Command;
@@ -47,7 +47,7 @@ fn command_of<'a>(book: BookName, name: &[u8], words: Words<'a>) -> Option<Comma
 
 /// A line that asks for what its command says. It needs a book that was chosen above it.
 fn asks_by<'a>(book: Option<BookName>, name: &[u8], words: Words<'a>) -> Option<Line<'a>>
-    ensures value { option_map said_by_line result
+    ensures value { option_map line_value result
         ≡ command_line book name.now words.entry }
 {
     Some(Line::Asks(command_of(book?, name, words)?))
@@ -61,7 +61,7 @@ fn said_by<'a>(
     mut words: Words<'a>,
 ) -> Result<Option<Line<'a>>, AllocError>
     ensures value { IfOk result
-        (λ l. option_map said_by_line l ≡ line_said book words.entry) }
+        (λ l. option_map line_value l ≡ line_said book words.entry) }
 {
     match words.next() {
         None => Ok(Some(Line::Nothing)),
@@ -86,7 +86,7 @@ pub fn understand<'a>(
     book: Option<BookName>,
     line: &'a [u8],
 ) -> Result<Option<Line<'a>>, AllocError>
-    ensures value { IfOk result (λ l. option_map said_by_line l ≡ understood book line.now) }
+    ensures value { IfOk result (λ l. option_map line_value l ≡ understood book line.now) }
 {
     if !is_text(line) {
         return Ok(None);

@@ -1,5 +1,4 @@
 ghost use Rattle.std.proofs.Common.{rules};
-ghost use Rattle.std.specs.Prelude.{◌≡◌};
 ghost use Rattle.books.specs.Meaning.{AmountTestIsCeiling};
 ghost use Rattle.stock.specs.Stock.{stock, held, most};
 ghost use Rattle.stock.specs.StepKeepsValid.{stock_has_64_codes, stock_keeps};

@@ -2,11 +2,9 @@
 use crate::days::{End, Stood, run_cut};
 use crate::ends::Ends;
 use books::Book;
+use day::DRIVE;
 use script::Script;
 use std::alloc::{AllocError, Global};
-
-/// The bytes of a rig's drive: 64 blocks.
-const DRIVE: usize = 4096;
 
 /// From here on a write that loses power lands.
 const LANDING: u16 = 32_768;

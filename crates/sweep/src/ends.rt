@@ -27,10 +27,10 @@ impl Ends {
     /// Prints the counts of the days in which the write that loses power lands, or does not.
     pub(crate) fn print(&self, rt: &HostRuntime, lands: bool) -> anyhow::Result<()> {
         let lands = if lands { "lands" } else { "does not land" };
-        let [_, staging, committing, applying, starting] = self.places;
+        let [_, staging, committing, installing, starting] = self.places;
         println!(rt; "  the write that loses power {lands}: {} days", self.days)?;
         println!(rt;
-            "    power lost at place 1: {staging}, 2: {committing}, 3: {applying}, 4: {starting}"
+            "    power lost at place 1: {staging}, 2: {committing}, 3: {installing}, 4: {starting}"
         )?;
         println!(rt;
             "    no tally, since a format lost power: {}",

@@ -16,9 +16,10 @@ mod tray;
 use books::Book;
 use cut_sweep::CutSweep;
 use damage::sweep_damage;
+use files::read_file;
 use registry::BookVisitor;
 use script::{Script, read_script};
-use std::{env, fs};
+use std::env;
 
 /// A script whose day is to be swept, in the book that it chooses.
 #[derive(Clone, Copy)]
@@ -71,7 +72,7 @@ fn sweep_script(rt: &HostRuntime, script: &Script) -> anyhow::Result<()> {
 
 fn main(rt: HostRuntime) -> anyhow::Result<()> {
     for path in env::args(&rt)?.skip(1) {
-        let text = fs::read(&rt, path.as_str())?;
+        let text = read_file(&rt, "sweep", path.as_str())?;
         let script = read_script(rt.alloc(), text.as_slice())?;
         println!(rt; "{}", path.as_str())?;
         sweep_script(&rt, &script)?;

@@ -5,9 +5,9 @@ use records::{Certification, Posting, Record};
 use script::Command;
 use std::alloc::{AllocError, Global};
 
-/// A slip that waits, by its name.
+/// A slip that waits, under the name that it was entered under.
 #[derive(Clone, Copy)]
-struct Ticket<'a> {
+struct WaitingSlip<'a> {
     name: &'a [u8],
     slip: SlipNumbers,
 }
@@ -15,21 +15,21 @@ struct Ticket<'a> {
 /// The slips that wait at the desk, by the commands and answers: a part of the oracle.
 #[derive(Drop)]
 pub struct Tray<'a> {
-    tickets: Vec<Ticket<'a>>,
+    slips: Vec<WaitingSlip<'a>>,
 }
 
 impl<'a> Tray<'a> {
     /// No slip waits.
     pub(crate) fn new(heap: Global) -> Tray<'a> {
         Tray {
-            tickets: Vec::new(heap),
+            slips: Vec::new(heap),
         }
     }
 
     /// Takes the first slip of a name.
     fn take(&mut self, name: &[u8]) -> Option<SlipNumbers> {
-        let place = self.tickets.iter().position(|ticket| ticket.name == name)?;
-        Some(self.tickets.remove(place).slip)
+        let place = self.slips.iter().position(|waiting| waiting.name == name)?;
+        Some(self.slips.remove(place).slip)
     }
 
     /// The record that a command asks for, if it asks for one: the slip is taken off the tray, or
@@ -42,7 +42,7 @@ impl<'a> Tray<'a> {
         match command {
             Command::Enter { slip: name, .. } => {
                 if let Told::Slip(Ok(slip)) = answer {
-                    self.tickets.push(Ticket { name, slip })?;
+                    self.slips.push(WaitingSlip { name, slip })?;
                 }
                 Ok(None)
             }

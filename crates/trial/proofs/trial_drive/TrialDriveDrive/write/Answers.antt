@@ -5,7 +5,6 @@ use Rattle.trial.specs.TrialState.{TrialState}
 use Rattle.trial.proofs.BlocksOfBytes.{length_blocks}
 use Rattle.trial.proofs.WritesKeepMeaning.{writes_done, writes_cut}
 use Rattle.trial.proofs.trial_drive.TrialDriveDrive.write.Goals as goal
-use Rattle.trial.proofs.trial_drive.TrialDriveDrive.write.Goals.{then-lands, else-lands}
 
 pub returns-in_err-check-clause-writes : goal.returns-in_err-check-clause-writes
 returns-in_err-check-clause-writes c = grind (arith, common_steps, length_blocks)
