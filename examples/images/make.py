@@ -115,13 +115,26 @@ IMAGES = [
     ('stock', 'of-the-ledger', posted),
 ]
 
+# Those whose own head is to name the book, and some that are judged so as well as by the book that is named.
+HEADLESS = [
+    ('strange-kind', changed(posted, 7, 4, 9)),
+    ('no-head', fresh[:7]),
+]
+BY_HEAD = ['posted', 'stocked', 'committed', 'too-small', 'other-kind', 'house-zero', 'strange-kind', 'no-head']
+
+
+def write(name, blocks):
+    with open(os.path.join(OUT, name + '.img'), 'wb') as f:
+        f.write(b''.join(blocks))
+
 
 def main():
     os.makedirs(OUT, exist_ok=True)
-    words, book = [], None
+    words, book = [name + '.img' for name in BY_HEAD], None
+    for name, blocks in HEADLESS:
+        write(name, blocks)
     for name_of_book, name, blocks in IMAGES:
-        with open(os.path.join(OUT, name + '.img'), 'wb') as f:
-            f.write(b''.join(blocks))
+        write(name, blocks)
         if name_of_book != book:
             words.append(name_of_book)
             book = name_of_book

@@ -20,7 +20,7 @@ mod tests {
     use ledger::{Balance, Ledger};
     use refusals::StepPlace;
     use registry::{BookName, TypedNote};
-    use script::{Command, Numbered, read_script};
+    use script::{BadLine, Command, Fault, LONGEST, Misfit, Numbered, read_script};
     use std::test::*;
     use stock::{Reels, Stock};
 
@@ -37,13 +37,38 @@ mod tests {
     // Whether a script is read to its end and asks for nothing.
     fn asks_nothing(rt: &HostRuntime, script: &[u8]) -> Result<bool, Fail> {
         let read = read_script(rt.alloc(), script)?;
-        Ok(read.bad_line.is_none() && read.commands.is_empty())
+        Ok(read.fault.is_none() && read.commands.is_empty())
     }
 
     // Whether a script is bad at this line, and asks for nothing above it.
     fn is_bad_at(rt: &HostRuntime, script: &[u8], line: u64) -> Result<bool, Fail> {
         let read = read_script(rt.alloc(), script)?;
-        Ok(read.bad_line == Some(line) && read.commands.is_empty())
+        let place = read.fault.map(|fault| fault.place());
+        Ok(place == Some(line) && read.commands.is_empty())
+    }
+
+    // What does not fit in the bad line of a script, if it has one.
+    fn misfit_in<'a>(rt: &HostRuntime, script: &'a [u8]) -> Result<Option<Misfit<'a>>, Fail> {
+        match read_script(rt.alloc(), script)?.fault {
+            Some(Fault::BadLine(bad_line)) => Ok(Some(bad_line.misfit)),
+            _ => Ok(None),
+        }
+    }
+
+    // Whether this word does not fit in the bad line of a script.
+    fn is_misfit(rt: &HostRuntime, script: &[u8], word: &[u8]) -> Result<bool, Fail> {
+        Ok(misfit_in(rt, script)? == Some(Misfit::Word(word)))
+    }
+
+    // Whether a word is missing in the bad line of a script.
+    fn is_too_short(rt: &HostRuntime, script: &[u8]) -> Result<bool, Fail> {
+        Ok(misfit_in(rt, script)? == Some(Misfit::TooShort))
+    }
+
+    // Whether a bad line is told in these words.
+    fn is_told(rt: &HostRuntime, bad_line: BadLine, text: &str) -> Result<bool, Fail> {
+        let told = format!(in rt.alloc(); "{bad_line}")?;
+        Ok(told.as_str() == text)
     }
 
     #[test]
@@ -156,7 +181,7 @@ mod tests {
             rt.alloc(),
             b"book ledger # money\r\n\tnote  receipt 00 8 4500#paid\r\n",
         )?;
-        assert_eq!(rt; read.bad_line, None);
+        assert_eq!(rt; read.fault, None);
         assert_eq!(rt;
             read.commands.as_slice(),
             [Numbered {
@@ -175,7 +200,7 @@ mod tests {
     fn calls_name_slips_and_words(rt: HostRuntime) -> Result<(), Fail> {
         let text = b"book stock\nenter s1 3 pin take 1 0 4\ncountersign s1 4 pen\n";
         let read = read_script(rt.alloc(), text)?;
-        assert_eq!(rt; read.bad_line, None);
+        assert_eq!(rt; read.fault, None);
         assert_eq!(rt; read.commands.len(), 2);
         assert_eq!(rt;
             read.commands[0].command,
@@ -209,7 +234,15 @@ mod tests {
             b"roll ann bob\nhouse 1\nopening 0x101 0\nbook stock\nbook ledger\nroll\nroll c\n\
                      cuts 65535 0\nopening 7\nhouse 0XfF\nhouse 2";
         let read = read_script(rt.alloc(), text)?;
-        assert_eq!(rt; read.bad_line, Some(10), "a capital X is no prefix");
+        assert_eq!(rt;
+            read.fault,
+            Some(Fault::BadLine(BadLine {
+                number: 10,
+                text: b"house 0XfF",
+                misfit: Misfit::Word(b"0XfF"),
+            })),
+            "a capital X is no prefix"
+        );
         assert_eq!(rt; read.setup.book, Some(BookName::Stock));
         assert_eq!(rt; read.setup.house, 1);
         assert_eq!(rt; read.setup.roll.as_slice(), b"annbobc".as_slice());
@@ -260,10 +293,73 @@ mod tests {
 
     #[test]
     fn a_script_of_the_largest_size(rt: HostRuntime) -> Result<(), Fail> {
+        assert_eq!(rt; LONGEST, 65536);
         let most = vec![in rt.alloc(); b'\n'; 65536]?;
         assert!(rt; asks_nothing(&rt, most.as_slice())?);
         let more = vec![in rt.alloc(); b'\n'; 65537]?;
         assert!(rt; is_bad_at(&rt, more.as_slice(), 0)?);
+        let read = read_script(rt.alloc(), more.as_slice())?;
+        assert_eq!(rt; read.fault, Some(Fault::TooLong));
+        Ok(())
+    }
+
+    #[test]
+    fn words_that_do_not_fit(rt: HostRuntime) -> Result<(), Fail> {
+        assert!(rt;
+            is_misfit(&rt, b"bok ledger", b"bok")?,
+            "the first word of no form"
+        );
+        assert!(rt; is_misfit(&rt, b"book Ledger", b"Ledger")?);
+        assert!(rt; is_misfit(&rt, b"item 8", b"item")?, "no book is chosen");
+        assert!(rt;
+            is_misfit(&rt, b"book stock\nnote charge 1 0 x", b"charge")?,
+            "a word of the other book, before a word that is no number"
+        );
+        assert!(rt; is_misfit(&rt, b"house 18446744073709551616", b"18446744073709551616")?);
+        assert!(rt;
+            is_misfit(&rt, b"book ledger\nattach 1 # so", b"1")?,
+            "a word too many"
+        );
+        assert!(rt; is_misfit(&rt, b"cuts 1 65535 65536 x", b"65536")?);
+        Ok(())
+    }
+
+    #[test]
+    fn words_that_are_missing(rt: HostRuntime) -> Result<(), Fail> {
+        assert!(rt; is_too_short(&rt, b"book")?);
+        assert!(rt; is_too_short(&rt, b"book stock\nnote take 1 0 # 4")?);
+        assert!(rt; is_too_short(&rt, b"book ledger\nenter s1 3 pin 9")?);
+        Ok(())
+    }
+
+    #[test]
+    fn a_bad_line_is_quoted(rt: HostRuntime) -> Result<(), Fail> {
+        let word = BadLine {
+            number: 1,
+            text: b"item \"bad\"\r",
+            misfit: Misfit::Word(b"\"bad\""),
+        };
+        assert!(rt;
+            is_told(
+                &rt,
+                word,
+                "  \"item \\\"bad\\\"\\r\": \"\\\"bad\\\"\" does not fit"
+            )?
+        );
+        let short = BadLine {
+            number: 1,
+            text: b"item",
+            misfit: Misfit::TooShort,
+        };
+        assert!(rt; is_told(&rt, short, "  \"item\": a word is missing")?);
+        let text = b"caf\xc3\xa9";
+        let coffee = BadLine {
+            number: 1,
+            text,
+            misfit: Misfit::NoText,
+        };
+        assert_eq!(rt; misfit_in(&rt, text)?, Some(Misfit::NoText));
+        assert!(rt; is_told(&rt, coffee, "  \"caf\\xc3\\xa9\": a byte is no text")?);
         Ok(())
     }
 }

@@ -1,5 +1,5 @@
 -- Looks at records, one after another: they change nothing, and show the records of the tally.
-use Rattle.std.proofs.Common.{◌≡◌, ℕ, ◌+◌, ◌<◌, ◌≤◌, zero, suc, Bool, true, false, nat_le, List, [], ◌∷◌, ◌++◌, map, take, Some, None, Ok, Option, IfSome, refl, sym, ap, subst, ◌∙◌, arith}
+use Rattle.std.proofs.Common.{◌≡◌, ℕ, ◌+◌, ◌<◌, ◌≤◌, zero, suc, Bool, true, false, nat_le, List, [], ◌∷◌, ◌++◌, map, length, take, Some, None, Ok, Option, IfSome, refl, sym, ap, subst, ◌∙◌, arith}
 use Rattle.std.specs.List.{list_all, range_with_len}
 use Rattle.std.proofs.lemmas.List.{map-append}
 use Rattle.std.proofs.lemmas.List.Folds.{list_all-append}
@@ -18,10 +18,13 @@ use Rattle.histories.specs.Law.{Agrees, Law}
 use Rattle.script.specs.Reading.{SetupValue}
 use Rattle.histories.specs.Tally.{Tally, tally}
 use Rattle.calls.specs.PlainValue.{FormatCall, AttachCall, CertifyCall, StrikeCall, ItemCall, RecordCall}
+use Rattle.calls.specs.declared.plain.Plain.TheVariants as plain
+use Rattle.desk.specs.declared.request.Request.TheVariants as request
 use Rattle.desk.specs.declared.told.Told.{Told}
 use Rattle.desk.specs.declared.told.Told.TheVariants as told
-use Rattle.desk.specs.Serving.{told as told_as, RequestValue, EnterRequest, CountersignRequest, WithdrawRequest, PlainRequest, Desk, opened_with, Session, none_served, one_served, Serves}
-use Rattle.day.specs.DayRun.{every_record, DayRan, day_history, day_events}
+use Rattle.desk.specs.Serving.{told as told_as, RequestValue, request_value, EnterRequest, CountersignRequest, WithdrawRequest, PlainRequest, Desk, opened_with, Session, none_served, one_served, Serves}
+use Rattle.day.specs.declared.start.Start.{Start}
+use Rattle.day.specs.DayRun.{shut_over, every_record, looked_at, DayRan, day_history, events_with}
 use Rattle.day.specs.Outcome.{record_seen as record_of, records_seen, TellsTally}
 
 is_look : RequestValue → Bool
@@ -73,6 +76,18 @@ shows_it a rest x xs p q = rw (p, q) refl
 shows_none : (a : Told) (rest : List Told) (xs : List Record) → record_of a ≡ None → records_seen rest ≡ xs → records_seen (a ∷ rest) ≡ xs
 shows_none a rest xs p q = rw (p, q) refl
 
+-- looks as they are asked for
+all_looks : (n : ℕ) → list_all is_look (every_record n) ≡ true
+unfolding is_look
+all_looks n = looks_all 1 n where
+  looks_all : (i n : ℕ) → list_all is_look (map request_value (map (λ k. request.Plain (plain.Record k)) (range_with_len i n))) ≡ true
+  looks_all i zero = refl
+  looks_all i (suc n) = looks_all (i + 1) n
+
+each_asked : (i n : ℕ) → map request_value (map (λ k. request.Plain (plain.Record k)) (range_with_len i n)) ≡ map (λ k. PlainRequest (RecordCall k)) (range_with_len i n)
+each_asked i zero = refl
+each_asked i (suc n) = ap (λ z. PlainRequest (RecordCall i) ∷ z) (each_asked (i + 1) n)
+
 -- what an open monitor shows
 module _ (d : JournalState) where
   abbrev opened : MonitorState
@@ -115,10 +130,14 @@ module _ (d : JournalState) where
       (in_order n (i + 1) j xs (omega arith) (omega arith) later)
 
   -- of a tally that it agrees with
-  told_by : (m : Meaning) (o : Option Tally) → IfSome o (λ t. Agrees m opened t.books) → IfSome o (λ t. records_seen (map (look_at opened) every_record) ≡ take 30 t.books.records)
+  told_by :
+      (m : Meaning) (n : ℕ) (o : Option Tally) → IfSome o (λ t. Agrees m opened t.books)
+      → IfSome o (λ t. records_seen (map (look_at opened) (every_record n)) ≡ take n t.books.records)
   unfolding looks_from
-  told_by m None k = tt
-  told_by m (Some t) k = in_order 30 1 (count_on (home_of opened)) t.books.records (omega arith) (omega arith) k.records
+  told_by m n None k = tt
+  told_by m n (Some t) k =
+      ap (λ z. records_seen (map (look_at opened) z)) (each_asked 1 n)
+      ∙ in_order n 1 (count_on (home_of opened)) t.books.records (omega arith) (omega arith) k.records
 
 -- at the end of a history an open monitor agrees with the tally, by the law of its last moment
 agrees_at_end :
@@ -128,13 +147,15 @@ agrees_at_end m _ _ (hist.then h d) k o = k.1.agrees o
 agrees_at_end m _ _ (hist.again h t) k o = absurd (shut_is_open o)
 
 pub tells_tally :
-    (m : Meaning) (bs : List (List ℕ)) (g : SetupValue) (requests : List RequestValue) (firsts answers looks : List Told) (end : MonitorState)
-    → (k : DayRan m bs g requests firsts answers looks end) → end.stage ≡ Open → TellsTally m (day_events k) looks
-unfolding is_look
-tells_tally m bs g requests firsts answers looks end k o =
-    let all = looked m (opened_with k.closed) every_record looks k.looked.desk k.looked.session refl in
+    (m : Meaning) (start : Start) (bs : List (List ℕ)) (g : SetupValue) (requests : List RequestValue) (firsts answers looks : List Told) (end : MonitorState)
+    → (k : DayRan m start bs g requests firsts answers looks end) → (es : List Event) → History m es (shut_over bs) → end.stage ≡ Open
+    → TellsTally m (events_with k es) (looked_at (length bs)) looks
+tells_tally m start bs g requests firsts answers looks end k es before o =
+    let n : ℕ = looked_at (length bs) in
+    let all = looked m (opened_with k.closed) (every_record n) looks k.looked.desk k.looked.session (all_looks n) in
     let now : end ≡ monitor_with Open end.disk = ap (λ z. monitor_with z end.disk) o in
     let same : k.closed ≡ monitor_with Open end.disk = sym all.1 ∙ k.looked.after ∙ now in
-    let shown : looks ≡ map (look_at (monitor_with Open end.disk)) every_record = all.0 ∙ ap (λ (z : MonitorState). map (look_at z) every_record) same in
-    let agrees = subst (λ (z : MonitorState). IfSome (tally m (day_events k)) (λ t. Agrees m z t.books)) now (agrees_at_end m (day_events k) end (day_history k.starts.law.run k.takes_over k.day.law.run k.looked.law.run) k.law o) in
-    subst (λ z. TellsTally m (day_events k) z) (sym shown) (told_by end.disk m (tally m (day_events k)) agrees)
+    let shown : looks ≡ map (look_at (monitor_with Open end.disk)) (every_record n) = all.0 ∙ ap (λ (z : MonitorState). map (look_at z) (every_record n)) same in
+    let agrees = subst (λ (z : MonitorState). IfSome (tally m (events_with k es)) (λ t. Agrees m z t.books)) now
+    (agrees_at_end m (events_with k es) end (day_history before k.starts.law.run k.takes_over k.day.law.run k.looked.law.run) (k.law es before) o) in
+    subst (λ z. TellsTally m (events_with k es) n z) (sym shown) (told_by end.disk m n (tally m (events_with k es)) agrees)

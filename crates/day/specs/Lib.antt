@@ -1,4 +1,5 @@
 pub mod DayRun
+pub mod Days
 pub mod Parts
 pub mod Plan
 pub mod Replies

@@ -1,17 +1,19 @@
--- What running a script comes to: a day that was run on a new drive, the replies by its answers,
--- and its audit.
-use Rattle.std.specs.Prelude.{◌≡◌, ℕ, List, ◌∷◌, ◌++◌, map, replicate, take, Some, None, Ok, Option, vec_items, IfSome, IsSomeAnd}
-use Rattle.std.specs.List.{filter_map}
+-- What running a script comes to: a day that was run on a drive, new or standing, the replies by its
+-- answers, its audit, and what it leaves of the drive.
+use Rattle.std.specs.Prelude.{◌≡◌, ℕ, List, [], ◌∷◌, ◌++◌, map, length, replicate, take, Some, None, Ok, Option, vec_items, IfSome, IsSomeAnd}
+use Rattle.std.specs.List.{concat, filter_map}
+use Rattle.std.specs.Option.{option_map}
 use Rattle.books.specs.Meaning.{Meaning}
-use Rattle.trial.specs.Bytes.{blocks_of}
+use Rattle.trial.specs.Bytes.{blocks_of, behind_blocks}
 use Rattle.records.specs.declared.record.Record.{Record}
 use Rattle.registry.specs.declared.book_name.BookName.{BookName}
 use Rattle.registry.specs.BookName.{meaning_of}
+use Rattle.script.specs.FaultValue.{fault_value}
 use Rattle.script.specs.Reading.{SetupValue, NumberedValue, ScriptValue}
 use Rattle.monitor.specs.declared.stage.Stage.{Stage}
 use Rattle.monitor.specs.declared.stage.Stage.TheVariants as stage
 use Rattle.monitor.specs.MonitorState.{MonitorState}
-use Rattle.histories.specs.Events.{Event}
+use Rattle.histories.specs.Events.{Event, History}
 use Rattle.histories.specs.Tally.{tally}
 use Rattle.desk.specs.declared.told.Told.{Told}
 use Rattle.desk.specs.declared.told.Told.TheVariants as told
@@ -22,19 +24,16 @@ use Rattle.day.specs.declared.source.Source.TheVariants.{Format, Attach, Line}
 use Rattle.day.specs.declared.reply.Reply.{Reply}
 use Rattle.day.specs.declared.outcome.Outcome.{Outcome}
 use Rattle.day.specs.declared.day.Day.{Day}
+use Rattle.day.specs.declared.start.Start.{Start}
+use Rattle.day.specs.declared.start.Start.TheVariants as start
 use Rattle.desk.specs.Serving.{RequestValue}
-use Rattle.day.specs.DayRun.{DayRan, DayRanTo, day_events}
+use Rattle.day.specs.DayRun.{shut_over, blocks_on, looked_at, DayRan, events_with}
 use Rattle.day.specs.Plan.{requests_of, all_expected}
 use Rattle.day.specs.Replies.{replies_of, last_reply}
 
 -- a new drive: 64 blocks of zeros
 abbrev pub new_drive : List ℕ
 new_drive = replicate 4096 0
-
--- a day that was run on a new drive
-abbrev pub DayRanOnNew : Meaning → SetupValue → List RequestValue → Day → Type 0
-DayRanOnNew m g requests d =
-    (last : List (List ℕ)) × DayRanTo m (blocks_of new_drive) g requests d last
 
 -- the records that were seen by looking at each number
 abbrev pub record_seen : Told → Option Record
@@ -45,41 +44,72 @@ abbrev pub records_seen : List Told → List Record
 records_seen looks = filter_map record_seen looks
 
 -- where there is a tally of what the books should hold, the records that were seen are its records,
--- up to the thirtieth
-abbrev pub TellsTally : Meaning → List Event → List Told → Type 0
-TellsTally m happened looks =
-    IfSome (tally m happened) (λ t. records_seen looks ≡ take 30 t.books.records)
+-- up to the n-th
+abbrev pub TellsTally : Meaning → List Event → ℕ → List Told → Type 0
+TellsTally m happened n looks =
+    IfSome (tally m happened) (λ t. records_seen looks ≡ take n t.books.records)
 
--- what is shown of the audit at a stage: its records exactly if the monitor is open
-abbrev pub Shows : Stage → List Told → Audit → Type 0
-Shows stage.Shut looks a = a ≡ audit.Shut
-Shows stage.Dark looks a = a ≡ audit.Dark
-Shows stage.Open looks (audit.Records v) = vec_items v ≡ records_seen looks
-Shows stage.Open looks audit.Shut = ⊥
-Shows stage.Open looks audit.Dark = ⊥
+-- what is shown of a book's audit at a stage: its records exactly if the monitor is open
+abbrev pub Shows : BookName → Stage → List Told → Audit → Type 0
+Shows b stage.Shut looks a = a ≡ audit.Shut
+Shows b stage.Dark looks a = a ≡ audit.Dark
+Shows b stage.Open looks (audit.Records book v) = (book ≡ b) × (vec_items v ≡ records_seen looks)
+Shows b stage.Open looks audit.Shut = ⊥
+Shows b stage.Open looks audit.Dark = ⊥
 
--- what the replies answer: the format, the attach, and every command in its order
-abbrev pub all_sources : List NumberedValue → List Source
-all_sources commands = Format ∷ (Attach ∷ map (λ c. Line c.line) commands)
+-- what the replies answer: the format of a new drive, the attach, and every command in its order
+abbrev pub first_sources : Start → List Source
+first_sources start.Format = Format ∷ []
+first_sources start.Attach = []
 
--- a script that chose a book, run on a new drive of that book
+abbrev pub all_sources : Start → List NumberedValue → List Source
+all_sources s commands = first_sources s ++ (Attach ∷ map (λ c. Line c.line) commands)
+
+-- what is left of the bytes that a drive stood on: its blocks, and what is behind them, untouched
+abbrev pub left_of : List ℕ → MonitorState → List ℕ
+left_of bytes end = concat (blocks_on end) ++ behind_blocks bytes
+
+-- a day that was run on a drive over these bytes, and what it left of them
+abbrev pub RanAndLeft :
+    Meaning → Start → List ℕ → SetupValue → List RequestValue → Day → List ℕ → Type 0
+RanAndLeft m s bytes g requests d left =
+    (end : MonitorState) × (end.stage ≡ d.stage) × (left ≡ left_of bytes end)
+    × DayRan m s (blocks_of bytes) g requests
+    (vec_items d.firsts) (vec_items d.told) (vec_items d.looks) end
+
+-- a script that chose a book, run on a drive of that book which stands on these bytes
 pub record RunsOn
-    (b : BookName) (g : SetupValue) (commands : List NumberedValue) (replies : List Reply)
-    (shown : Option Audit) : Type 0 where
+    (b : BookName) (s : Start) (bytes : List ℕ) (g : SetupValue) (commands : List NumberedValue)
+    (replies : List Reply) (shown : Option Audit) (left : Option (List ℕ)) : Type 0 where
   pub firsts : List Told
   pub told : List Told
   pub looks : List Told
   pub end : MonitorState
   pub day :
-      DayRan (meaning_of b) (blocks_of new_drive) g (requests_of g commands) firsts told looks end
-  pub replied : replies ≡ replies_of (all_expected g commands) (firsts ++ told)
-  pub everything : map (λ (r : Reply). r.source) replies ≡ all_sources commands
-  pub tells_tally : end.stage ≡ stage.Open → TellsTally (meaning_of b) (day_events day) looks
-  pub audited : IsSomeAnd shown (Shows end.stage looks)
+      DayRan (meaning_of b) s (blocks_of bytes) g (requests_of g commands) firsts told looks end
+  pub replied : replies ≡ replies_of b (all_expected s g commands) (firsts ++ told)
+  pub everything : map (λ (r : Reply). r.source) replies ≡ all_sources s commands
+  pub tells_tally :
+      (es : List Event) → History (meaning_of b) es (shut_over (blocks_of bytes))
+      → end.stage ≡ stage.Open
+      → TellsTally (meaning_of b) (events_with day es) (looked_at (length (blocks_of bytes))) looks
+  pub audited : IsSomeAnd shown (Shows b end.stage looks)
+  pub leaves : left ≡ Some (left_of bytes end)
 
--- what a script comes to, and last its bad line is refused; where it chose no book, there is no day
-abbrev pub Runs : Option BookName → ScriptValue → Outcome → Type 0
-Runs (Some b) r o =
-    (replies : List Reply) × (vec_items o.replies ≡ replies ++ last_reply r.bad)
-    × RunsOn b r.setup r.commands replies o.audit
-Runs None r o = (vec_items o.replies ≡ last_reply r.bad) × (o.audit ≡ None)
+-- what is left of the drive of an outcome, if it had one
+abbrev pub left_in : Outcome → Option (List ℕ)
+left_in o = option_map vec_items o.drive
+
+-- what a script comes to, and last what ended its reading is refused; where it chose no book, there
+-- is no day
+abbrev pub RunsBy : Option BookName → Start → List ℕ → ScriptValue → Outcome → Type 0
+RunsBy (Some b) s bytes r o =
+    (replies : List Reply) × (vec_items o.replies ≡ replies ++ last_reply r.fault)
+    × RunsOn b s bytes r.setup r.commands replies o.audit (left_in o)
+RunsBy None s bytes r o =
+    (vec_items o.replies ≡ last_reply r.fault) × (o.audit ≡ None) × (left_in o ≡ None)
+
+-- what a script comes to, and why its reading ended
+abbrev pub Runs : Start → List ℕ → ScriptValue → Outcome → Type 0
+Runs s bytes r o =
+    RunsBy r.setup.book s bytes r o × (option_map fault_value o.fault ≡ r.fault)

@@ -9,6 +9,7 @@ use Rattle.journals.specs.JournalState.{TakenOver}
 use Rattle.desk.specs.declared.told.Told.{Told}
 use Rattle.desk.specs.Serving.{RequestValue, Served}
 use Rattle.day.specs.declared.day.Day.{Day}
+use Rattle.day.specs.declared.start.Start.{Start}
 use Rattle.day.specs.DayRun.{shut_over, blocks_on, every_record}
 use Rattle.day.specs.Plan.{first_requests}
 
@@ -18,19 +19,19 @@ pub record TakenBack (s : MonitorState) (left : List ℕ) : Type 0 where
   pub same : blocks_of left ≡ blocks_on s
   pub takes_over : TakenOver s.disk (shut_over (blocks_of left)).disk
 
--- the rig was formatted
-abbrev pub Begun : Meaning → List ℕ → SetupValue → List Told → List ℕ → Type 0
-Begun m bytes g firsts left =
-    (s : MonitorState) × Served m (shut_over (blocks_of bytes)) (first_requests g) firsts s
+-- the first part was done
+abbrev pub Begun : Meaning → Start → List ℕ → SetupValue → List Told → List ℕ → Type 0
+Begun m start bytes g firsts left =
+    (s : MonitorState) × Served m (shut_over (blocks_of bytes)) (first_requests start g) firsts s
     × TakenBack s left
 
--- requests and looks, on a monitor
+-- requests, and looks at so many records, on a monitor
 pub record Looked
-    (m : Meaning) (s : MonitorState) (requests : List RequestValue) (told looks : List Told)
-    (t : MonitorState) : Type 0 where
+    (m : Meaning) (s : MonitorState) (requests : List RequestValue) (n : ℕ)
+    (told looks : List Told) (t : MonitorState) : Type 0 where
   pub closed : MonitorState
   pub requests_served : Served m s requests told closed
-  pub looks_served : Served m closed every_record looks t
+  pub looks_served : Served m closed (every_record n) looks t
 
 -- the same, where memory was wanted
 pub data Stopped
@@ -41,17 +42,17 @@ pub data Stopped
 
 -- a day that went on, from a monitor to another, after what was told of the format
 abbrev pub ServesDay :
-    Meaning → MonitorState → List RequestValue → List Told → Result Day AllocError →
+    Meaning → MonitorState → List RequestValue → ℕ → List Told → Result Day AllocError →
     MonitorState → Type 0
-ServesDay m s requests firsts r t =
+ServesDay m s requests n firsts r t =
     MatchResult r
     (λ d. (vec_items d.firsts ≡ firsts) × (d.stage ≡ t.stage)
-    × Looked m s requests (vec_items d.told) (vec_items d.looks) t)
+    × Looked m s requests n (vec_items d.told) (vec_items d.looks) t)
     (λ _. Stopped m s requests t)
 
 -- the same, with the bytes of the drive taken back
 abbrev pub ServedDay :
-    Meaning → MonitorState → List RequestValue → List Told → Result Day AllocError → List ℕ →
+    Meaning → MonitorState → List RequestValue → ℕ → List Told → Result Day AllocError → List ℕ →
     Type 0
-ServedDay m s requests firsts r left =
-    (t : MonitorState) × ServesDay m s requests firsts r t × (blocks_of left ≡ blocks_on t)
+ServedDay m s requests n firsts r left =
+    (t : MonitorState) × ServesDay m s requests n firsts r t × TakenBack t left

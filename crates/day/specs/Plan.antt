@@ -1,6 +1,6 @@
 -- What each command of a script comes to: something that is said at once, or a request to the desk,
 -- whose answer is the reply.
-use Rattle.std.specs.Prelude.{ℕ, List, [], ◌∷◌, map, Some, None, Ok, Err, vec_items, Option, Result}
+use Rattle.std.specs.Prelude.{ℕ, List, [], ◌∷◌, ◌++◌, map, Some, None, Ok, Err, vec_items, Option, Result}
 use Rattle.std.specs.List.{flat_map}
 use Rattle.refusals.specs.declared.refusal.Refusal.{Refusal}
 use Rattle.notes.specs.declared.note_numbers.NoteNumbers.{NoteNumbers}
@@ -10,6 +10,8 @@ use Rattle.script.specs.LineValue.{CommandValue, NoteCommand, FormatCommand, Ent
 use Rattle.script.specs.Reading.{SetupValue, NumberedValue}
 use Rattle.desk.specs.declared.request.Request.{Request}
 use Rattle.desk.specs.Serving.{RequestValue, EnterRequest, CountersignRequest, WithdrawRequest, PlainRequest, request_value}
+use Rattle.day.specs.declared.start.Start.{Start}
+use Rattle.day.specs.declared.start.Start.TheVariants as start
 use Rattle.day.specs.declared.source.Source.TheVariants.{Format, Attach, Line}
 use Rattle.day.specs.declared.said.Said.{Said}
 use Rattle.day.specs.declared.said.Said.TheVariants.{Note, Refused}
@@ -61,9 +63,11 @@ abbrev pub said_at_once : Result RequestValue Said → Option Said
 said_at_once (Ok q) = None
 said_at_once (Err said) = Some said
 
--- the first part of a day, on a new drive: it is formatted with what the script sets up
-abbrev pub first_requests : SetupValue → List RequestValue
-first_requests g = format_asked g g.house ∷ []
+-- the first part of a day: a new drive is formatted with what the script sets up; of a drive that
+-- stands nothing is asked yet
+abbrev pub first_requests : Start → SetupValue → List RequestValue
+first_requests start.Format g = format_asked g g.house ∷ []
+first_requests start.Attach g = []
 
 -- the day's requests: the drive is attached, and then the commands ask in their order
 abbrev pub requests_of : SetupValue → List NumberedValue → List RequestValue
@@ -76,8 +80,13 @@ expected_by line p = record { source = Line line; said = said_at_once p }
 abbrev pub expected_of : SetupValue → NumberedValue → Expected
 expected_of g c = expected_by c.line (planned g c.asked)
 
--- the replies that a script is to have: to the format, to the attach, and to each command
-abbrev pub all_expected : SetupValue → List NumberedValue → List Expected
-all_expected g cs =
-    record { source = Format; said = None }
-    ∷ (record { source = Attach; said = None } ∷ map (expected_of g) cs)
+-- the reply to the first part, if there is one
+abbrev pub first_expected : Start → List Expected
+first_expected start.Format = record { source = Format; said = None } ∷ []
+first_expected start.Attach = []
+
+-- the replies that a script is to have: to the format of a new drive, to the attach, and to each
+-- command
+abbrev pub all_expected : Start → SetupValue → List NumberedValue → List Expected
+all_expected s g cs =
+    first_expected s ++ (record { source = Attach; said = None } ∷ map (expected_of g) cs)

@@ -2,12 +2,14 @@
 use Rattle.std.specs.Prelude.{ℕ, List, [], ◌∷◌, Some, None, Option}
 use Rattle.refusals.specs.declared.reason.Reason.TheVariants.{BadScript}
 use Rattle.refusals.specs.declared.refusal.Refusal.{Refusal}
+use Rattle.registry.specs.declared.book_name.BookName.{BookName}
+use Rattle.script.specs.FaultValue.{FaultValue, TooLongFault, BadLineFault, place_of}
 use Rattle.desk.specs.declared.told.Told.{Told}
 use Rattle.desk.specs.declared.told.Told.TheVariants as told
 use Rattle.day.specs.declared.source.Source.{Source}
 use Rattle.day.specs.declared.source.Source.TheVariants.{Format, Attach, Line}
 use Rattle.day.specs.declared.said.Said.{Said}
-use Rattle.day.specs.declared.said.Said.TheVariants.{Refused, NoSlip, Answered}
+use Rattle.day.specs.declared.said.Said.TheVariants.{Refused, TooLong, NoSlip, Answered}
 use Rattle.day.specs.declared.reply.Reply.{Reply}
 use Rattle.day.specs.declared.plan.Expected.{Expected}
 
@@ -21,28 +23,33 @@ line_of Format = 0
 line_of Attach = 0
 line_of (Line k) = k
 
--- what is said of what the desk told: where no slip of the name waits, the line is refused
-abbrev pub said_of : Source → Told → Said
-said_of source told.NoSuchSlip = NoSlip (bad_line (line_of source))
-said_of source t = Answered t
+-- what is said of what the desk told of a book: where no slip of the name waits, the line is refused
+abbrev pub said_of : BookName → Source → Told → Said
+said_of b source told.NoSuchSlip = NoSlip (bad_line (line_of source))
+said_of b source t = Answered b t
 
--- where the answers end, so do the replies
-abbrev pub replies_of : List Expected → List Told → List Reply
-replies_of [] answers = []
-replies_of (x ∷ xs) answers =
+-- the replies in a book; where the answers end, so do the replies
+abbrev pub replies_of : BookName → List Expected → List Told → List Reply
+replies_of b [] answers = []
+replies_of b (x ∷ xs) answers =
     elim x.said [
-      | Some s ↦ record { source = x.source; said = s } ∷ replies_of xs answers
+      | Some s ↦ record { source = x.source; said = s } ∷ replies_of b xs answers
       | None ↦ elim answers [
         | [] ↦ []
-        | t ∷ later ↦ record { source = x.source; said = said_of x.source t } ∷ replies_of xs later
+        | t ∷ later ↦
+            record { source = x.source; said = said_of b x.source t } ∷ replies_of b xs later
       ]
     ]
 
--- a line that no form fits is refused
-abbrev pub line_at_fault : ℕ → Reply
-line_at_fault k = record { source = Line k; said = Refused (bad_line k) }
+-- a script that is too long is refused, and so is a line that no form fits
+abbrev pub said_of_fault : FaultValue → Said
+said_of_fault TooLongFault = TooLong (bad_line 0)
+said_of_fault (BadLineFault l) = Refused (bad_line l.number)
+
+abbrev pub reply_to_fault : FaultValue → Reply
+reply_to_fault f = record { source = Line (place_of f); said = said_of_fault f }
 
 -- it comes last
-abbrev pub last_reply : Option ℕ → List Reply
+abbrev pub last_reply : Option FaultValue → List Reply
 last_reply None = []
-last_reply (Some k) = line_at_fault k ∷ []
+last_reply (Some f) = reply_to_fault f ∷ []

@@ -4,6 +4,8 @@ ghost use Rattle.day.specs.Outcome.{Shows, record_seen, records_seen};
 use desk::Told;
 use monitor::Stage;
 use records::Record;
+use registry::BookName;
+use reports::AuditTable;
 use std::alloc::{AllocError, Global};
 use std::fmt;
 
@@ -14,19 +16,25 @@ pub enum Audit {
     Shut,
     /// The monitor is dark: it lost power.
     Dark,
-    /// The records, from number 1 on.
-    Records(Vec<Record>),
+    /// The records of the book, from number 1 on.
+    Records(BookName, Vec<Record>),
 }
 
 impl Audit {
-    /// The audit of a monitor that came to this stage, by what was told of a look at each record.
-    pub(crate) fn of(heap: Global, stage: Stage, looks: &[Told]) -> Result<Audit, AllocError>
-        ensures shows { IfOk result (Shows stage looks.now) }
+    /// The audit of a book's monitor that came to this stage, by what was told of a look at each
+    /// record.
+    pub(crate) fn of(
+        heap: Global,
+        book: BookName,
+        stage: Stage,
+        looks: &[Told],
+    ) -> Result<Audit, AllocError>
+        ensures shows { IfOk result (Shows book stage looks.now) }
     {
         match stage {
             Stage::Shut => Ok(Audit::Shut),
             Stage::Dark => Ok(Audit::Dark),
-            Stage::Open => Ok(Audit::Records(records_in(heap, looks)?)),
+            Stage::Open => Ok(Audit::Records(book, records_in(heap, looks)?)),
         }
     }
 }
@@ -52,4 +60,30 @@ fn records_in(heap: Global, looks: &[Told]) -> Result<Vec<Record>, AllocError>
         }
     }
     Ok(records)
+}
+
+/// The audit as a table, or why there is none to be seen.
+impl fmt::Display for Audit {
+    ghost use Rattle.std.specs.Prelude.{Some};
+    ghost use Rattle.day.specs.Texts.{audit_text};
+
+    ghost output = { λ x. Some (audit_text x) };
+
+    fn fmt<W: fmt::Write>(&self, f: &mut fmt::Formatter<W>) -> fmt::Result {
+        match self {
+            Audit::Shut => f.write_str("audit: the monitor is shut"),
+            Audit::Dark => f.write_str("audit: the monitor is dark"),
+            Audit::Records(book, records) => {
+                let records = records.as_slice();
+                write!(
+                    f,
+                    "{}",
+                    AuditTable {
+                        book: *book,
+                        records
+                    }
+                )
+            }
+        }
+    }
 }

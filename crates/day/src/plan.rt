@@ -4,10 +4,11 @@ ghost use Rattle.script.specs.LineValue.{command_value};
 ghost use Rattle.script.specs.Reading.{setup_value, numbered_value};
 ghost use Rattle.desk.specs.Serving.{request_value};
 ghost use Rattle.day.specs.declared.source.Source.TheVariants.{Line};
-ghost use Rattle.day.specs.Plan.{note_said, entering_of, planned as plan_by, plan_of, asks, expected_by, format_asked, first_requests as first_asked, requests_in, expected_in, requests_of, all_expected};
+ghost use Rattle.day.specs.Plan.{note_said, entering_of, planned as plan_by, plan_of, asks, expected_by, format_asked, first_requests as first_asked, first_expected as first_replies, requests_in, expected_in, requests_of, all_expected};
 
 use crate::said::Said;
 use crate::source::Source;
+use crate::start::Start;
 use calls::Plain;
 use desk::Request;
 use registry::TypedNote;
@@ -93,9 +94,9 @@ pub struct Expected {
 /// What is to be done on a day, and the replies that the script is to have.
 #[derive(Drop)]
 pub struct Plan<'a> {
-    /// What the desk is asked for once the rig is formatted, in order.
+    /// What the desk is asked for, from the attach on, in order.
     pub requests: Vec<Request<'a>>,
-    /// The replies to the format, to the attach and to each command, in order.
+    /// The replies to the format of a new drive, to the attach and to each command, in order.
     pub expected: Vec<Expected>,
 }
 
@@ -122,15 +123,20 @@ impl<'a> Plan<'a> {
     }
 }
 
-/// The first request on a new rig: it is formatted with what the script sets up.
+/// What is asked before the attach: a new drive is formatted with what the script sets up, and of
+/// one that stands nothing is asked.
 pub(crate) fn first_requests<'a>(
     heap: Global,
+    start: Start,
     setup: &'a Setup,
 ) -> Result<Vec<Request<'a>>, AllocError>
     ensures asks { IfOk result (λ v.
-        map request_value v.items ≡ first_asked (setup_value setup.now)) }
+        map request_value v.items ≡ first_asked start (setup_value setup.now)) }
 {
-    Ok(vec![in heap; ask_format(setup, setup.house)]?)
+    match start {
+        Start::Format => Ok(vec![in heap; ask_format(setup, setup.house)]?),
+        Start::Attach => Ok(Vec::new(heap)),
+    }
 }
 
 /// A reply that is one of the desk's answers.
@@ -140,23 +146,36 @@ fn awaited(source: Source) -> Expected
     Expected { source, said: None }
 }
 
-/// The plan of a day: once the rig is formatted the drive is attached, and then the commands ask,
-/// in their order. For the format, the attach and each command it says whether the reply is what
-/// the desk tells next, or else what is said at once. It fails only for want of memory.
+/// The replies that are awaited before the attach's.
+fn first_expected(heap: Global, start: Start) -> Result<Vec<Expected>, AllocError>
+    ensures value { IfOk result (λ v. v.items ≡ first_replies start) }
+{
+    match start {
+        Start::Format => Ok(vec![in heap; awaited(Source::Format)]?),
+        Start::Attach => Ok(Vec::new(heap)),
+    }
+}
+
+/// The plan of a day: the drive is attached, once it is formatted if it is new, and then the
+/// commands ask, in their order. For the format, the attach and each command it says whether the
+/// reply is what the desk tells next, or else what is said at once. It fails only for want of
+/// memory.
 pub fn plan_day<'a>(
     heap: Global,
+    start: Start,
     setup: &'a Setup,
     commands: &[Numbered<'a>],
 ) -> Result<Plan<'a>, AllocError>
     ensures requests { IfOk result (λ p. requests_in p
         ≡ requests_of (setup_value setup.now) (map numbered_value commands.now)) }
     ensures expected { IfOk result (λ p. expected_in p
-        ≡ all_expected (setup_value setup.now) (map numbered_value commands.now)) }
+        ≡ all_expected start (setup_value setup.now) (map numbered_value commands.now)) }
 {
     let mut plan = Plan {
         requests: vec![in heap; Request::Plain(Plain::Attach)]?,
-        expected: vec![in heap; awaited(Source::Format), awaited(Source::Attach)]?,
+        expected: first_expected(heap, start)?,
     };
+    plan.expected.push(awaited(Source::Attach))?;
     for numbered in commands {
         plan.add(numbered.line, plan_command(setup, numbered.command))?;
     }

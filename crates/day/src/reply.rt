@@ -5,6 +5,8 @@ use crate::plan::Expected;
 use crate::said::{Said, refuse_line};
 use crate::source::Source;
 use desk::Told;
+use registry::BookName;
+use script::Fault;
 use std::alloc::{AllocError, Global};
 use std::fmt;
 
@@ -16,28 +18,34 @@ pub struct Reply {
 }
 
 impl Reply {
-    ghost use Rattle.day.specs.Replies.{line_at_fault};
+    ghost use Rattle.script.specs.FaultValue.{fault_value};
+    ghost use Rattle.day.specs.Replies.{reply_to_fault};
 
-    /// The reply to the bad line that ended the reading: refusal 5, with the line's number as
-    /// place.
-    pub(crate) fn to_bad_line(line: u64) -> Reply
-        ensures value { result ≡ line_at_fault line }
+    /// The reply to what ended the reading of a script: refusal 5, with the number of the bad line
+    /// as its place, or 0 if the script is too long.
+    pub(crate) fn to_fault(fault: &Fault) -> Reply
+        ensures value { result ≡ reply_to_fault (fault_value fault.now) }
     {
+        let refusal = refuse_line(fault.place());
         Reply {
-            source: Source::Line(line),
-            said: Said::Refused(refuse_line(line)),
+            source: Source::Line(fault.place()),
+            said: match fault {
+                Fault::TooLong => Said::TooLong(refusal),
+                Fault::BadLine(_) => Said::Refused(refusal),
+            },
         }
     }
 }
 
-/// The replies, in order: what was said before the desk was asked, and else what it told next.
+/// The replies in a book, in order: what was said before the desk was asked, and else what it told next.
 /// Where the desk told too little, the replies end. It fails only for want of memory.
 pub(crate) fn replies_to(
     heap: Global,
+    book: BookName,
     expected: &[Expected],
     answers: &[Told],
 ) -> Result<Vec<Reply>, AllocError>
-    ensures replies { IfOk result (λ v. v.items ≡ replies_of expected.now answers.now) }
+    ensures replies { IfOk result (λ v. v.items ≡ replies_of book expected.now answers.now) }
 {
     let mut replies = Vec::new(heap);
     let mut left = answers;
@@ -49,7 +57,7 @@ pub(crate) fn replies_to(
                     return Ok(replies);
                 };
                 left = later;
-                Said::of_told(next.source, *told)
+                Said::of_told(book, next.source, *told)
             }
         };
         replies.push(Reply {

@@ -7,6 +7,8 @@ use desk::Told;
 use monitor::SlipNumbers;
 use notes::NoteNumbers;
 use refusals::{Heading, Reason, Refusal};
+use registry::{BookName, CodeText};
+use reports::RecordText;
 use std::fmt;
 
 /// What is said in reply.
@@ -16,10 +18,12 @@ pub enum Said {
     Note(NoteNumbers),
     /// It was refused before it came to the desk.
     Refused(Refusal),
+    /// It was refused, since the script is too long.
+    TooLong(Refusal),
     /// It was refused, since no slip of the name waits.
     NoSlip(Refusal),
-    /// What the desk told.
-    Answered(Told),
+    /// What the desk told of the book.
+    Answered(BookName, Told),
 }
 
 /// The refusal of a line that asks for what cannot be: 5, with the line's number as its place.
@@ -32,13 +36,14 @@ pub(crate) fn refuse_line(line: u64) -> Refusal
 impl Said {
     ghost use Rattle.day.specs.Replies.{said_of};
 
-    /// What is said of what the desk told: where no slip of the name waits, the line is refused.
-    pub(crate) fn of_told(source: Source, told: Told) -> Said
-        ensures value { result ≡ said_of source told }
+    /// What is said of what the desk told of a book: where no slip of the name waits, the line is
+    /// refused.
+    pub(crate) fn of_told(book: BookName, source: Source, told: Told) -> Said
+        ensures value { result ≡ said_of book source told }
     {
         match told {
             Told::NoSuchSlip => Said::NoSlip(refuse_line(source.line())),
-            _ => Said::Answered(told),
+            _ => Said::Answered(book, told),
         }
     }
 }
@@ -75,21 +80,28 @@ impl fmt::Display for SlipText {
     }
 }
 
-/// What the desk tells, in words.
+/// What is said where no slip of a name waits.
+const NO_SLIP: &str = "no slip of this name waits";
+
+/// What the desk tells of a book, in words.
 #[derive(Clone, Copy)]
-struct ToldText(Told);
+struct ToldText {
+    book: BookName,
+    told: Told,
+}
 
 impl fmt::Display for ToldText {
-    ghost output = { λ x. Some (told_text x.0) };
+    ghost output = { λ x. Some (told_text x.book x.told) };
 
     fn fmt<W: fmt::Write>(&self, f: &mut fmt::Formatter<W>) -> fmt::Result {
-        match self.0 {
+        let book = self.book;
+        match self.told {
             Told::Count(Ok(count)) => write!(f, "records: {count}"),
             Told::Slip(Ok(entered)) => write!(f, "slip: {}", SlipText(entered)),
-            Told::Code(Ok(code)) => write!(f, "code {code}"),
-            Told::Record(Ok(entry)) => write!(f, "record: {entry}"),
+            Told::Code(Ok(code)) => write!(f, "code {code} ({})", CodeText { book, code }),
+            Told::Record(Ok(record)) => write!(f, "record: {}", RecordText { book, record }),
             Told::Withdrawn(entered) => write!(f, "withdrawn: {}", SlipText(entered)),
-            Told::NoSuchSlip => f.write_str("no slip of this name waits"),
+            Told::NoSuchSlip => f.write_str(NO_SLIP),
             Told::Count(Err(refusal))
             | Told::Slip(Err(refusal))
             | Told::Code(Err(refusal))
@@ -108,10 +120,9 @@ impl fmt::Display for Said {
         match *self {
             Said::Note(numbers) => write!(f, "note made: {}", NoteText(numbers)),
             Said::Refused(refusal) => write!(f, "{refusal}"),
-            Said::NoSlip(refusal) => {
-                write!(f, "{}: {}", Heading(refusal), ToldText(Told::NoSuchSlip))
-            }
-            Said::Answered(told) => write!(f, "{}", ToldText(told)),
+            Said::TooLong(refusal) => write!(f, "{}: the script is too long", Heading(refusal)),
+            Said::NoSlip(refusal) => write!(f, "{}: {NO_SLIP}", Heading(refusal)),
+            Said::Answered(book, told) => write!(f, "{}", ToldText { book, told }),
         }
     }
 }

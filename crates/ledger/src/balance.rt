@@ -1,10 +1,24 @@
-ghost use Rattle.std.specs.Prelude.{◌≡◌};
+ghost use Rattle.std.specs.Prelude.{◌≡◌, Some};
 ghost use Rattle.ledger.specs.Ledger.{within, code_changed};
+ghost use Rattle.ledger.specs.Texts.{balance_text};
+
+use std::fmt;
 
 /// A balance in pence.
 #[derive(Clone, Copy, PartialEq, Eq, Debug)]
 pub struct Balance {
     pub pence: i64,
+}
+
+/// A balance in pounds and pence, for people: `45.00`, or `-0.05`.
+impl fmt::Display for Balance {
+    ghost output = { λ x. Some (balance_text x.pence) };
+
+    fn fmt<W: fmt::Write>(&self, f: &mut fmt::Formatter<W>) -> fmt::Result {
+        let sign = if self.pence < 0 { "-" } else { "" };
+        let pence = self.pence.unsigned_abs();
+        write!(f, "{sign}{}.{:02}", pence / 100, pence % 100)
+    }
 }
 
 /// The furthest that a balance may lie from zero, in pence.

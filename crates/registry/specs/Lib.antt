@@ -1,2 +1,3 @@
 pub mod BookName
+pub mod Texts
 pub mod TypedNote

@@ -1,7 +1,7 @@
-ghost use Rattle.std.specs.Prelude.{◌≡◌};
+ghost use Rattle.std.specs.Prelude.{◌≡◌, Some, option_map};
 
 use crate::book_visitor::BookVisitor;
-use books::{Draft, procedure_named};
+use books::{Book, Draft, procedure_named};
 use ledger::Ledger;
 use notes::{Note, make_note};
 use refusals::Refusal;
@@ -17,9 +17,9 @@ pub enum BookName {
 }
 
 impl BookName {
-    ghost use Rattle.books.specs.Words.{procedure_of_word};
+    ghost use Rattle.books.specs.Words.{word_of, procedure_of_word};
     ghost use Rattle.notes.specs.Notes.{noted};
-    ghost use Rattle.registry.specs.BookName.{book_named, meaning_of};
+    ghost use Rattle.registry.specs.BookName.{book_named, book_of_kind, meaning_of};
 
     /// The book that a word names, in small letters: `ledger` or `stock`. None for any other word.
     pub fn named(word: &[u8]) -> Option<BookName>
@@ -29,6 +29,37 @@ impl BookName {
             b"ledger" => Some(BookName::Ledger),
             b"stock" => Some(BookName::Stock),
             _ => None,
+        }
+    }
+
+    /// The word that names the book.
+    pub fn name(self) -> &'static str
+        ensures named { book_named result.now ≡ Some self }
+    {
+        match self {
+            BookName::Ledger => "ledger",
+            BookName::Stock => "stock",
+        }
+    }
+
+    /// The book of a kind number. None for a number that is no book's.
+    pub fn of_kind(kind: u8) -> Option<BookName>
+        ensures value { result ≡ book_of_kind kind }
+    {
+        match kind {
+            Ledger::KIND => Some(BookName::Ledger),
+            Stock::KIND => Some(BookName::Stock),
+            _ => None,
+        }
+    }
+
+    /// The word of a procedure in this book. None for a number that is no procedure's.
+    pub fn word(self, procedure: u64) -> Option<&'static str>
+        ensures value { option_map (λ x. x.now) result ≡ word_of (meaning_of self).words procedure }
+    {
+        match self {
+            BookName::Ledger => Ledger.word(procedure),
+            BookName::Stock => Stock.word(procedure),
         }
     }
 

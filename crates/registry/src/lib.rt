@@ -4,8 +4,10 @@
 
 mod book_name;
 mod book_visitor;
+mod code_text;
 mod typed_note;
 
 pub use book_name::BookName;
 pub use book_visitor::BookVisitor;
+pub use code_text::CodeText;
 pub use typed_note::TypedNote;

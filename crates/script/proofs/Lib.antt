@@ -1,1 +1,3 @@
+mod FirstMisfit
 mod RangeGoesOn
+mod SlotsSaid

@@ -1,7 +1,7 @@
 -- A whole script: what it sets up, and its commands with their line numbers, up to the first bad
 -- line.
 use Rattle.std.specs.Prelude.{ℕ, suc, not, List, [], ◌∷◌, ◌++◌, map, length, Some, None, vec_items, Option, nat_le, if◌then◌else◌}
-use Rattle.std.specs.Option.{option_or}
+use Rattle.std.specs.Option.{option_map, option_or}
 use Rattle.lexer.specs.Pieces.{lines}
 use Rattle.registry.specs.declared.book_name.BookName.{BookName}
 use Rattle.script.specs.declared.setup.Setup.{Setup}
@@ -9,6 +9,8 @@ use Rattle.script.specs.declared.numbered.Numbered.{Numbered}
 use Rattle.script.specs.declared.script.Script.{Script}
 use Rattle.script.specs.LineValue.{CommandValue, LineValue, NothingLine, BookLine, HouseLine, RollLine, OpeningLine, CutsLine, CommandLine, command_value}
 use Rattle.script.specs.Grammar.{understood}
+use Rattle.script.specs.FaultValue.{FaultValue, TooLongFault, BadLineFault, fault_value}
+use Rattle.script.specs.Misfit.{misfit_of}
 
 -- what a script sets up: the rig's book, the house number, the bytes of the roll, the codes of the
 -- opening, the cut numbers
@@ -24,18 +26,18 @@ pub record NumberedValue : Type 0 where
   pub line : ℕ
   pub asked : CommandValue
 
--- what was read of a script, and the number of the bad line that ended the reading, if one did
+-- what was read of a script, and why the reading ended before the end, if it did
 pub record ScriptValue : Type 0 where
   pub setup : SetupValue
   pub commands : List NumberedValue
-  pub bad : Option ℕ
+  pub fault : Option FaultValue
 
 -- before the first line: no book, house number 0, and no more
 abbrev pub nothing_read : ScriptValue
 nothing_read = record {
   setup = record { book = None; house = 0; roll = []; opening = []; cuts = [] };
   commands = [];
-  bad = None;
+  fault = None;
 }
 
 -- what a line adds to the setup: the first book is the rig's, a later house number replaces an
@@ -57,26 +59,31 @@ with_command k _ cs = cs
 -- what was read, once line k was
 abbrev pub with_line : ℕ → LineValue → ScriptValue → ScriptValue
 with_line k x r =
-    record { setup = with_setup x r.setup; commands = with_command k x r.commands; bad = r.bad }
+    record { setup = with_setup x r.setup; commands = with_command k x r.commands; fault = r.fault }
 
 -- the book that is chosen below a line
 abbrev pub book_after : Option BookName → LineValue → Option BookName
 book_after book (BookLine b) = Some b
 book_after book _ = book
 
+-- the fault of line k, which no form fits
+abbrev pub bad_line : ℕ → Option BookName → List ℕ → FaultValue
+bad_line k book l =
+    BadLineFault (record { number = k; text = l; misfit = misfit_of book l })
+
 -- the lines from number k on, under the book that is chosen so far, after what was read above them
 abbrev pub reading : ℕ → Option BookName → ScriptValue → List (List ℕ) → ScriptValue
 reading k book r [] = r
 reading k book r (l ∷ ls) =
     elim (understood book l) [
-      | None ↦ record r { bad = Some k }
+      | None ↦ record r { fault = Some (bad_line k book l) }
       | Some x ↦ reading (suc k) (book_after book x) (with_line k x r) ls
     ]
 
--- a script is at most 65,536 bytes; a longer one is bad at line 0
+-- a script is at most 65,536 bytes; a longer one is too long, and not read
 abbrev pub script_reading : List ℕ → ScriptValue
 script_reading text =
-    if not (nat_le (length text) 65536) then record nothing_read { bad = Some 0 }
+    if not (nat_le (length text) 65536) then record nothing_read { fault = Some TooLongFault }
     else reading 1 None nothing_read (lines text)
 
 -- a setup as it was read
@@ -99,5 +106,5 @@ script_value s =
     record {
       setup = setup_value s.setup;
       commands = map numbered_value (vec_items s.commands);
-      bad = s.bad_line;
+      fault = option_map fault_value s.fault;
     }

@@ -11,7 +11,7 @@ use lexer::{Words, typed_number};
 use registry::{BookName, TypedNote};
 
 /// The procedure that a word names in the book, or else types as a number of 64 bits.
-fn procedure_of(book: BookName, word: &[u8]) -> Option<u64>
+pub(crate) fn procedure_of(book: BookName, word: &[u8]) -> Option<u64>
     ensures value { result ≡ typed_procedure book word.now }
 {
     book.procedure_named(word).or_else(|| typed_number(word))

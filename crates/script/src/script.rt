@@ -2,18 +2,19 @@ ghost use Rattle.std.specs.Prelude.{◌≡◌, OnOk};
 ghost use Rattle.script.specs.LineValue.{line_value};
 ghost use Rattle.script.specs.Reading.{script_value, nothing_read, with_line};
 
+use crate::fault::Fault;
 use crate::line::Line;
 use crate::numbered::Numbered;
 use crate::setup::Setup;
 use std::alloc::{AllocError, Global};
 
-/// A script that was read: what it sets up, its commands in order, and the number of the bad line
-/// that ended the reading, if one did.
+/// A script that was read: what it sets up, its commands in order, and why the reading ended before
+/// the end, if it did.
 #[derive(PartialEq, Eq, Debug, Drop)]
 pub struct Script<'a> {
     pub setup: Setup,
     pub commands: Vec<Numbered<'a>>,
-    pub bad_line: Option<u64>,
+    pub fault: Option<Fault<'a>>,
 }
 
 impl<'a> Script<'a> {
@@ -31,7 +32,7 @@ impl<'a> Script<'a> {
         Script {
             setup,
             commands: Vec::new(heap),
-            bad_line: None,
+            fault: None,
         }
     }
 

@@ -53,7 +53,7 @@ pub(crate) fn opening_of<'a>(heap: Global, words: Words) -> Result<Option<Line<'
 }
 
 /// The cut number that a word types.
-fn cut_typed(word: &[u8]) -> Option<u16>
+pub(crate) fn cut_typed(word: &[u8]) -> Option<u16>
     ensures value { result ≡ cut_by_word word.now }
 {
     u16::try_from(typed_number(word)?).ok()

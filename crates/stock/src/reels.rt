@@ -1,11 +1,23 @@
-ghost use Rattle.std.specs.Prelude.{◌≡◌};
+ghost use Rattle.std.specs.Prelude.{◌≡◌, Some};
 ghost use Rattle.stock.specs.Stock.{shelf_ok, held, most, reels_code};
+ghost use Rattle.stock.specs.Texts.{reels_text};
+
+use std::fmt;
 
 /// The reels held and the most that may be held.
 #[derive(Clone, Copy, PartialEq, Eq, Debug)]
 pub struct Reels {
     pub held: u32,
     pub most: u32,
+}
+
+/// The pair in words, for people: `4 held of 10`.
+impl fmt::Display for Reels {
+    ghost output = { λ x. Some (reels_text x.held x.most) };
+
+    fn fmt<W: fmt::Write>(&self, f: &mut fmt::Formatter<W>) -> fmt::Result {
+        write!(f, "{} held of {}", self.held, self.most)
+    }
 }
 
 /// The most reels that one shelf may be built for.

@@ -2,7 +2,7 @@
 use crate::tally::Tally;
 use books::Book;
 use calls::Plain;
-use day::{Expected, Plan, plan_day, run_day};
+use day::{Expected, Plan, Start, plan_day, run_day};
 use desk::{Request, Told};
 use records::Record;
 use refusals::Reason;
@@ -125,8 +125,9 @@ fn run_set_up<'a, B: Book + Copy + Drop>(
     setup: &'a Setup,
     bytes: &'a mut [u8],
 ) -> Result<End, AllocError> {
-    let Plan { requests, expected } = plan_day(heap, setup, script.commands.as_slice())?;
-    let (_, day) = run_day(heap, book, bytes, setup, and_looks(requests)?);
+    let start = Start::Format;
+    let Plan { requests, expected } = plan_day(heap, start, setup, script.commands.as_slice())?;
+    let (_, day) = run_day(heap, book, start, bytes, setup, and_looks(requests)?);
     let day = day?;
     let answers = day.told.as_slice();
     let (tally, items) = tally_of(heap, &book, script, expected.as_slice(), answers)?;

@@ -16,10 +16,10 @@ mod tray;
 use books::Book;
 use cut_sweep::CutSweep;
 use damage::sweep_damage;
-use files::read_file;
+use files::{Arguments, read_file};
 use registry::BookVisitor;
 use script::{Script, read_script};
-use std::env;
+use std::process::ExitCode;
 
 /// A script whose day is to be swept, in the book that it chooses.
 #[derive(Clone, Copy)]
@@ -70,12 +70,16 @@ fn sweep_script(rt: &HostRuntime, script: &Script) -> anyhow::Result<()> {
     }
 }
 
-fn main(rt: HostRuntime) -> anyhow::Result<()> {
-    for path in env::args(&rt)?.skip(1) {
-        let text = read_file(&rt, "sweep", path.as_str())?;
+fn main(rt: HostRuntime) -> anyhow::Result<ExitCode> {
+    let arguments = Arguments::of(&rt)?;
+    for path in arguments.words.iter().skip(1) {
+        let path = path.as_str();
+        let Some(text) = read_file(&rt, "sweep", &arguments, path, u64::MAX)? else {
+            return Ok(ExitCode::FAILURE);
+        };
         let script = read_script(rt.alloc(), text.as_slice())?;
-        println!(rt; "{}", path.as_str())?;
+        println!(rt; "{path}")?;
         sweep_script(&rt, &script)?;
     }
-    Ok(())
+    Ok(ExitCode::SUCCESS)
 }

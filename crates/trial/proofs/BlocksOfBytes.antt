@@ -1,16 +1,12 @@
 -- The blocks in a run of bytes, and what a write of one of them makes of them.
 use Rattle.std.proofs.Common.{◌≡◌, ℕ, ◌+◌, ◌-◌, ◌*◌, ◌/◌, ◌<◌, ◌≢◌, List, [], ◌++◌, length, get_or, take, drop, set, sym, ap, ◌∙◌, subst, inl, inr, arith}
 use borrow.Rule.Slice.PartMut.{put_mid}
-use Rattle.std.proofs.lemmas.List.FromFn.{length-map-range_with_len, get_or-map-range_with_len}
+use Rattle.std.proofs.lemmas.List.FromFn.{get_or-map-range_with_len}
 use Rattle.std.proofs.lemmas.Slice.{between_is, take-put_mid_below, drop-put_mid, between-put_mid}
 use Rattle.std.proofs.lemmas.List.{length-set, length-take, length-drop, length-append, drop-drop, get_or-set_same, get_or-set_other, ext_get_or}
 use Rattle.std.proofs.lemmas.Bool.{cases_eq, cases_lt}
 use Rattle.trial.specs.Bytes.{blocks_of, with_block}
-
--- the bytes hold a block for every 64 of them
-pub length_blocks : (bs : List ℕ) → length (blocks_of bs) ≡ length bs / 64
-unfolding blocks_of
-length_blocks bs = length-map-range_with_len (λ k. take 64 (drop (64 * k) bs)) 0 (length bs / 64)
+use Rattle.trial.specs.Laws.{length_blocks}
 
 -- block k is the 64 bytes from 64 * k on
 pub block_at : (bs : List ℕ) (k : ℕ) (d : List ℕ) → k < length bs / 64 → get_or (blocks_of bs) k d ≡ take 64 (drop (64 * k) bs)

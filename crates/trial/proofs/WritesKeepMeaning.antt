@@ -8,7 +8,8 @@ use Rattle.drives.specs.declared.drive_fault.DriveFault.TheVariants.{PowerLost}
 use Rattle.trial.specs.Bytes.{blocks_of, with_block, disk_of}
 use Rattle.trial.specs.TrialState.{TrialState, fault, read_answer}
 use Rattle.trial.proofs.SettledBlocks.{own_only, own_itself}
-use Rattle.trial.proofs.BlocksOfBytes.{length_blocks, blocks_with}
+use Rattle.trial.specs.Laws.{length_blocks}
+use Rattle.trial.proofs.BlocksOfBytes.{blocks_with}
 
 -- a read or a write that no test refuses
 passed : (s : TrialState) (b n : ℕ) → Ok tt ≡ read_answer (fault s b n) → (s.on ≡ true) × (b < length s.bytes / 64) × (n ≡ 64)

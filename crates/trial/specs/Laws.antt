@@ -1,10 +1,18 @@
--- What the crates above prove with: blocks one after another are the bytes that stand in blocks.
+-- What the crates above prove with: how many blocks some bytes hold, and that blocks one after
+-- another are the bytes that stand in blocks.
 use Rattle.std.specs.Prelude.{◌≡◌, ℕ, zero, suc, ◌+◌, ◌*◌, ◌/◌, List, ◌∷◌, ◌++◌, map, length, take, drop, refl}
 use Rattle.std.proofs.Common.{sym, ap, ◌∙◌, arith}
 use Rattle.std.proofs.Math.Seq.{take-add}
+use Rattle.std.proofs.lemmas.List.FromFn.{length-map-range_with_len}
 use Rattle.std.proofs.lemmas.List.{length-take-le, drop-drop, drop-take, take-take}
 use Rattle.std.specs.List.{concat, range_with_len}
 use Rattle.trial.specs.Bytes.{blocks_of, in_blocks}
+
+-- the bytes hold a block for every 64 of them
+pub length_blocks : (bs : List ℕ) → length (blocks_of bs) ≡ length bs / 64
+unfolding blocks_of
+length_blocks bs =
+    length-map-range_with_len (λ k. take 64 (drop (64 * k) bs)) 0 (length bs / 64)
 
 -- block k of some bytes
 abbrev pub block : List ℕ → ℕ → List ℕ

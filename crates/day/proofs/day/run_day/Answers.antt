@@ -15,7 +15,7 @@ returns g c =
     record {
       runs = record {
         last = blocks_of left;
-        ran = subst (λ z. DayRanOr g.B.Book.meaning z (setup_value c.args.setup.now) (map request_value c.args.requests.items) c.run_parts-blocks.result.1 (blocks_of left)) blocks c.run_parts-blocks.ensures.ran;
+        ran = subst (λ z. DayRanOr g.B.Book.meaning c.args.start z (setup_value c.args.setup.now) (map request_value c.args.requests.items) c.run_parts-blocks.result.1 (blocks_of left)) blocks c.run_parts-blocks.ensures.ran;
         blocks_left = c.whole_blocks.ensures.value ∙ sym (blocks_joined left);
         behind_left = c.split_at_mut-blocks.ensures.back ∙ ap (λ z. drop z bytes) c.bytes_in_blocks-whole.ensures.value;
       };

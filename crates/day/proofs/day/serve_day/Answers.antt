@@ -11,12 +11,12 @@ use Rattle.day.proofs.day.serve_day.Goals as goal
 pub returns-in_err-look_at_every_record : goal.returns-in_err-look_at_every_record
 returns-in_err-look_at_every_record g c =
     let p = err_from_is_err_and c.from_residual-in_err-look_at_every_record.result c.from_residual-in_err-look_at_every_record.ensures.1 in
-    record { serves_day = stopped_as g.B.Book.meaning c.args.monitor.now c.serve.new.monitor _ _ _ p.0 p.1 (unlooked c.in_ok-told.ensures.served) }
+    record { serves_day = stopped_as g.B.Book.meaning c.args.monitor.now c.serve.new.monitor _ _ _ _ p.0 p.1 (unlooked c.in_ok-told.ensures.served) }
 
 pub returns-in_err-looks : goal.returns-in_err-looks
 returns-in_err-looks g c =
     let p = err_from_is_err_and c.from_residual-in_err-looks.result c.from_residual-in_err-looks.ensures.1 in
-    record { serves_day = stopped_as g.B.Book.meaning c.args.monitor.now c.serve-2.new.monitor _ _ _ p.0 p.1 (unlooked_at c.in_err-looks.ensures.untouched c.in_ok-told.ensures.served) }
+    record { serves_day = stopped_as g.B.Book.meaning c.args.monitor.now c.serve-2.new.monitor _ _ _ _ p.0 p.1 (unlooked_at c.in_err-looks.ensures.untouched c.in_ok-told.ensures.served) }
 
 -- all was done and looked at
 pub returns : goal.returns

@@ -7,5 +7,5 @@ use Rattle.day.proofs.plan.plan_day.Given as goal
 abbrev pub invariant-loop-numbered : goal.invariant-loop-numbered
 invariant-loop-numbered l = record {
   requests : requests_in l.plan ≡ requests_of (setup_value l.setup) (map numbered_value (take l.numbered-index l.commands));
-  expected : expected_in l.plan ≡ all_expected (setup_value l.setup) (map numbered_value (take l.numbered-index l.commands));
+  expected : expected_in l.plan ≡ all_expected l.fn.start (setup_value l.setup) (map numbered_value (take l.numbered-index l.commands));
 }

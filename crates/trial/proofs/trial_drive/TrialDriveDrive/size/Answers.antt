@@ -1,5 +1,5 @@
 use Rattle.std.proofs.Common.{rules}
-use Rattle.trial.proofs.BlocksOfBytes.{length_blocks}
+use Rattle.trial.specs.Laws.{length_blocks}
 use Rattle.trial.proofs.trial_drive.TrialDriveDrive.size.Goals as goal
 
 -- The size is the number of whole blocks.

@@ -2,7 +2,7 @@ use Rattle.std.proofs.Common.{◌≡◌, ap, ◌∙◌, arith, rules}
 use Rattle.std.proofs.lemmas.Grind.{common_steps}
 use Rattle.trial.specs.Bytes.{with_block}
 use Rattle.trial.specs.TrialState.{TrialState}
-use Rattle.trial.proofs.BlocksOfBytes.{length_blocks}
+use Rattle.trial.specs.Laws.{length_blocks}
 use Rattle.trial.proofs.WritesKeepMeaning.{writes_done, writes_cut}
 use Rattle.trial.proofs.trial_drive.TrialDriveDrive.write.Goals as goal
 
