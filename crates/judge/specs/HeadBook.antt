@@ -1,5 +1,6 @@
 -- The book that the head of an image names.
-use Rattle.std.specs.Prelude.{ℕ, List, ◌++◌, not, length, take, drop, Some, None, Ok, Err, Option, Result, nat_le, codes, decimal, if◌then◌else◌}
+use Rattle.std.specs.Prelude.{ℕ, List, ◌++◌, ◌+◌, ◌*◌, not, length, take, drop, Some, None, Ok, Err, Option, Result, nat_le, codes, decimal, if◌then◌else◌}
+use Rattle.image.specs.Layout.{head_block}
 use Rattle.layout.specs.declared.head.Head.{Head}
 use Rattle.layout.specs.Head.{head_of}
 use Rattle.registry.specs.declared.book_name.BookName.{BookName}
@@ -16,11 +17,11 @@ book_of_head (Some h) =
       | Some b ↦ Ok b
     ]
 
--- the head stands in block 7, which are the 64 bytes from 448 on
+-- the head stands in its block, of 64 bytes
 abbrev pub book_by_head : List ℕ → Result BookName NoBook
 book_by_head bytes =
-    if not (nat_le 512 (length bytes)) then Err no-book.TooSmall
-    else book_of_head (head_of (take 64 (drop 448 bytes)))
+    if not (nat_le (64 * head_block + 64) (length bytes)) then Err no-book.TooSmall
+    else book_of_head (head_of (take 64 (drop (64 * head_block) bytes)))
 
 -- why a head names no book, in words
 abbrev pub no_book_text : NoBook → List ℕ

@@ -1,6 +1,7 @@
 ghost use Rattle.std.specs.Prelude.{◌≡◌, Some};
 ghost use Rattle.judge.specs.HeadBook.{book_by_head};
 
+use image::HEAD;
 use layout::read_head;
 use registry::BookName;
 use std::fmt;
@@ -16,18 +17,18 @@ pub(crate) enum NoBook {
     NoSuchKind(u8),
 }
 
-/// Where the head begins: block 7 of 64 bytes each.
-const HEAD: usize = 7 * 64;
+/// Where the head's block begins, in bytes.
+const START: usize = HEAD as usize * 64;
 
 /// The book whose kind the head of an image names, by the bytes of the image as they stand.
 pub(crate) fn book_in_head(bytes: &[u8]) -> Result<BookName, NoBook>
     ensures value { result ≡ book_by_head bytes.now }
 {
-    if bytes.len() < HEAD + 64 {
+    if bytes.len() < START + 64 {
         return Err(NoBook::TooSmall);
     }
     let mut block = [0; 64];
-    block.copy_from_slice(&bytes[HEAD..HEAD + 64]);
+    block.copy_from_slice(&bytes[START..START + 64]);
     let Some(head) = read_head(&block) else {
         return Err(NoBook::NoHead);
     };
