@@ -166,6 +166,14 @@ fn main(rt: HostRuntime) -> anyhow::Result<ExitCode> {
         }
     };
     let words = matches.get_strs("word").unwrap_or(&[]);
+    if words
+        .iter()
+        .all(|word| BookName::named(word.as_bytes()).is_some())
+    {
+        // Books, and no image to judge: what the words are for.
+        rt.print(command(rt.alloc())?.render_help()?.as_str())?;
+        return Ok(ExitCode::SUCCESS);
+    }
     Ok(if judge_all(&rt, &arguments, words)? {
         ExitCode::SUCCESS
     } else {

@@ -7,14 +7,19 @@ use notes::{Note, make_note};
 use refusals::Refusal;
 use stock::Stock;
 
-/// The books that there are.
+/// The books that there are. Each case's discriminant is the book's kind number.
 #[derive(Clone, Copy, PartialEq, Eq, Debug)]
 pub enum BookName {
     /// The book of money.
-    Ledger,
+    Ledger = 1,
     /// The book of reels.
-    Stock,
+    Stock = 2,
 }
+
+// The numbers are those of the books.
+const _: () = prove!(BookName::Ledger as u8 == Ledger::KIND);
+
+const _: () = prove!(BookName::Stock as u8 == Stock::KIND);
 
 impl BookName {
     ghost use Rattle.books.specs.Words.{word_of, procedure_of_word};
