@@ -1,5 +1,5 @@
 -- Where a list falls into pieces and words.
-use Rattle.std.proofs.Common.{◌≡◌, ℕ, ◌+◌, ◌<◌, Bool, true, not, List, [], ◌∷◌, length, take, drop, Some, None, sym, refl, ap, ◌∙◌, one-add, arith}
+use Rattle.std.proofs.Common.{◌≡◌, ℕ, ◌+◌, ◌<◌, ◌≤◌, Bool, true, not, List, [], ◌∷◌, length, take, drop, Some, None, sym, refl, ap, ◌∙◌, one-add, arith}
 use Rattle.std.specs.List.{slice_split, before_first, after_first, position, position_or_len}
 use Rattle.std.proofs.lemmas.List.{length-take-le}
 use Rattle.std.proofs.lemmas.List.Splits.{slice_split_first}
@@ -35,13 +35,20 @@ not_found p xs h = let within = prefix_len-le-length (λ x. not (p x)) xs in gri
 
 -- a line ends at its line feed
 pub line_first :
-    (text : List ℕ) (i : ℕ)
-    → position newline text ≡ Some i → lines text ≡ take i text ∷ lines (drop (i + 1) text)
-line_first text i h = let at = found newline text i h in rw at.0 (pieces_cut newline text (omega arith))
+    (text : List ℕ) (n : ℕ)
+    → n ≡ position_or_len newline text → n < length text
+    → lines text ≡ take n text ∷ lines (drop (n + 1) text)
+line_first text n e h = rw e (pieces_cut newline text (omega (arith, e)))
 
 -- the last line has none
-pub line_last : (text : List ℕ) → position newline text ≡ None → lines text ≡ text ∷ []
-line_last text h = pieces_whole newline text (not_found newline text h)
+pub line_last :
+    (text : List ℕ) (n : ℕ)
+    → n ≡ position_or_len newline text → n ≡ length text → lines text ≡ text ∷ []
+line_last text n e h = pieces_whole newline text (sym e ∙ h)
+
+-- there are no more bytes before it than there are
+pub line_within : (text : List ℕ) (n : ℕ) → n ≡ position_or_len newline text → n ≤ length text
+line_within text n e = rw e (prefix_len-le-length (λ b. not (newline b)) text)
 
 -- what stands in words
 abbrev pub solid : ℕ → Bool

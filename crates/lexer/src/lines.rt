@@ -39,12 +39,11 @@ impl<'a> Iterator for Lines<'a> {
     /// The next line, or none after the last.
     fn next(&mut self) -> Option<&'a [u8]> {
         let text = self.rest?;
-        match text.iter().position(|byte| *byte == b'\n') {
-            Some(end) => {
-                self.rest = Some(&text[end + 1..]);
-                Some(&text[..end])
-            }
-            None => self.rest.take(),
+        let end = text.iter().take_while(|byte| **byte != b'\n').count();
+        if end == text.len() {
+            return self.rest.take();
         }
+        self.rest = Some(&text[end + 1..]);
+        Some(&text[..end])
     }
 }

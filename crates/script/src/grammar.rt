@@ -1,4 +1,6 @@
-ghost use Rattle.std.specs.Prelude.{◌≡◌, IfOk};
+ghost use Rattle.std.specs.Prelude.{◌≡◌, ◌∷◌, true, false, IfOk, MatchOption};
+ghost use Rattle.std.specs.List.{list_all};
+ghost use Rattle.lexer.specs.Pieces.{printable, uncommented, words};
 ghost use Rattle.std.specs.Option.{option_map};
 ghost use Rattle.script.specs.LineValue.{command_value, line_value};
 ghost use Rattle.script.specs.Grammar.{command, command_line, line_said, understood};
@@ -53,25 +55,41 @@ fn asks_by<'a>(book: Option<BookName>, name: &[u8], words: Words<'a>) -> Option<
     Some(Line::Asks(command_of(book?, name, words)?))
 }
 
-/// What a line says by its words, under the book that is chosen above it. It fails only for want of
-/// memory.
-fn said_by<'a>(
+/// What a line says by its first word and the others, under the book that is chosen above it. It
+/// fails only for want of memory.
+pub(crate) fn said_by<'a>(
     heap: Global,
     book: Option<BookName>,
-    mut words: Words<'a>,
+    name: &[u8],
+    words: Words<'a>,
 ) -> Result<Option<Line<'a>>, AllocError>
     ensures value { IfOk result
-        (λ l. option_map line_value l ≡ line_said book words.entry) }
+        (λ l. option_map line_value l ≡ line_said book (name.now ∷ words.entry)) }
 {
-    match words.next() {
-        None => Ok(Some(Line::Nothing)),
-        Some(b"book") => Ok(book_of(words)),
-        Some(b"house") => Ok(house_of(words)),
-        Some(b"roll") => roll_of(heap, words),
-        Some(b"opening") => opening_of(heap, words),
-        Some(b"cuts") => cuts_of(heap, words),
-        Some(name) => Ok(asks_by(book, name, words)),
+    if name == b"book".as_slice() {
+        Ok(book_of(words))
+    } else if name == b"house".as_slice() {
+        Ok(house_of(words))
+    } else if name == b"roll".as_slice() {
+        roll_of(heap, words)
+    } else if name == b"opening".as_slice() {
+        opening_of(heap, words)
+    } else if name == b"cuts".as_slice() {
+        cuts_of(heap, words)
+    } else {
+        Ok(asks_by(book, name, words))
     }
+}
+
+/// The words of a line, up to its comment; none where a byte of the line is no text.
+pub(crate) fn words_in(line: &[u8]) -> Option<Words>
+    ensures value { MatchOption result (list_all printable line.now ≡ false)
+        (λ ws. (list_all printable line.now ≡ true) × (ws ≡ words (uncommented line.now))) }
+{
+    if !is_text(line) {
+        return None;
+    }
+    Some(Words::of(without_comment(line)))
 }
 
 /// What a line says, under the book that is chosen above it, or none where the line is bad. Bad are
@@ -88,8 +106,11 @@ pub fn understand<'a>(
 ) -> Result<Option<Line<'a>>, AllocError>
     ensures value { IfOk result (λ l. option_map line_value l ≡ understood book line.now) }
 {
-    if !is_text(line) {
+    let Some(mut words) = words_in(line) else {
         return Ok(None);
+    };
+    match words.next() {
+        Some(name) => said_by(heap, book, name, words),
+        None => Ok(Some(Line::Nothing)),
     }
-    said_by(heap, book, Words::of(without_comment(line)))
 }
