@@ -1,1 +1,2 @@
 pub mod TwoDigits
+pub mod ZeroBits

@@ -1,7 +1,6 @@
-use Rattle.std.proofs.Common.{◌≡◌, ◌^◌, ◌<◌, ◌==◌, ◌&&◌, ◌+ℤ◌, ℕ, true, false, length, map, take, get_or, pos, to_z, of_z, w64, sym, ap, ◌∙◌, arith, take_all}
+use Rattle.std.proofs.Common.{◌≡◌, ◌<◌, ◌==◌, ◌&&◌, ◌+ℤ◌, true, false, length, map, take, get_or, pos, to_z, of_z, w64, sym, ap, ◌∙◌, arith, take_all}
 use Rattle.std.proofs.Math.Bool.{and-false}
 use Rattle.std.proofs.lemmas.Bool.{eq-eqb, and_from}
-use Rattle.std.proofs.lemmas.Bool.Decides.{nat_tests}
 use Rattle.std.proofs.lemmas.Int.{ints, to_z-of_z}
 use Rattle.std.proofs.lemmas.List.{length-map, get_or-map}
 use Rattle.std.proofs.lemmas.List.Folds.{list_all_at, list_all_more}
@@ -9,6 +8,7 @@ use Rattle.std.proofs.lemmas.List.Sums.{fold_more}
 use Rattle.std.specs.List.{list_all}
 use Rattle.ledger.specs.Ledger.{balance, within, is_zero, total}
 use Rattle.ledger.specs.Totals.{within_bounds}
+use Rattle.ledger.proofs.ZeroBits.{zero_bits}
 use Rattle.ledger.proofs.ledger.LedgerBook.verify.Goals as goal
 
 -- one balance more, which lies within its bounds
@@ -41,10 +41,6 @@ returns-then-not-is_within c =
     let failed : within (get_or zs i (pos 0)) ≡ false = ap within (sym is) ∙ sym c.if-not-is_within.ensures.value in
     let not-all = list_all_at within zs i (pos 0) inside failed in
     record { value = sym (ap (λ t. length codes == 64 && (t && is_zero (total zs))) not-all ∙ and-false (length codes == 64)) }
-
--- a number of 64 bits is 0 exactly if it stands for 0
-zero_bits : (n : ℕ) → n < 2 ^ 64 → (n == 0) ≡ is_zero (balance n)
-zero_bits n h = grind (arith, ints, nat_tests)
 
 pub returns : goal.returns
 returns c =
